@@ -1,0 +1,17 @@
+use mathlib.Core.Path.{sym, _∙_}
+use borrow.Author.Needs.{needs}
+use Rattle.identity.proofs.Digits.{past, step, stop, done}
+use Rattle.identity.proofs.decimal.digits.Needs as need
+
+pub returns-in-rest : need.returns-in-rest
+returns-in-rest c = search (needs, stop)
+
+pub returns-then-next-most : need.returns-then-next-most
+returns-then-next-most c =
+    let e = past (c .loop-b .value) (c .args .most) (c .args .bytes .now) (c .loop-b .b-index) (c .in-Some .digit) (c .loop-b-test .taken) (sym (c .digit .ensures) ∙ c .in-Some .is) (c .if-next-most .taken) in cc
+
+pub loop-b-again : need.loop-b-again
+loop-b-again c = search (needs, step)
+
+pub returns : need.returns
+returns c = search (needs, done)

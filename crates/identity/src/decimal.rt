@@ -1,0 +1,44 @@
+// Whole numbers in decimal digits.
+ghost use mathlib.Core.Path.{_≡_};
+ghost use Rattle.identity.specs.Decimals.{decimalOf, digitsOf, digitOf};
+use crate::class::DIGIT;
+use crate::class::class;
+
+// The number that bytes write without a leading zero, if it is at most `most`.
+pub fn decimal(bytes: &[u8], most: u64) -> Option<u64>
+    ensures { λ r. ⌜ r ≡ decimalOf most (now (bytes .entry)) ⌝ }
+{
+    match bytes {
+        [] => None,
+        [b'0', _, ..] => None,
+        _ => digits(bytes, most),
+    }
+}
+
+fn digit(b: u8) -> Option<u8>
+    ensures { λ r. ⌜ r ≡ digitOf b ⌝ }
+{
+    if class(b) == DIGIT {
+        Some(b - b'0')
+    } else {
+        None
+    }
+}
+
+// The number that digits write, leading zeros or not, if it is at most `most`.
+pub(crate) fn digits(bytes: &[u8], most: u64) -> Option<u64>
+    ensures { λ r. ⌜ r ≡ digitsOf most (now (bytes .entry)) ⌝ }
+{
+    let mut value: u64 = 0;
+    for b in bytes {
+        let Some(digit) = digit(*b) else {
+            return None;
+        };
+        let next = value as u128 * 10 + digit as u128;
+        if next > most as u128 {
+            return None;
+        }
+        value = next as u64;
+    }
+    Some(value)
+}
