@@ -1,0 +1,5 @@
+pub mod Fews
+pub mod Lines
+pub mod Readings
+pub mod Requests
+pub mod Words
