@@ -2,4 +2,5 @@ pub mod Fews
 pub mod Lines
 pub mod Readings
 pub mod Requests
+pub mod Tables
 pub mod Words

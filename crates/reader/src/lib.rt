@@ -5,4 +5,6 @@ mod lines;
 mod list;
 pub mod request;
 pub mod requests;
+pub mod settings;
+pub mod tables;
 pub mod words;

@@ -1,8 +1,9 @@
 // Lines of a text, each a key and a value.
 ghost use mathlib.Core.Path.{_≡_};
-ghost use Prim.Native.Nat.{_<_};
+ghost use Prim.Native.Nat.{_<_, _≤_};
 ghost use lib.ListN.{length};
 ghost use Rattle.std.specs.Options.{mapped, Cases as BySome};
+ghost use Rattle.std.specs.Vec.{made};
 ghost use Rattle.reader.specs.Lines.{lineEnd, valueAndRest, viewed, place, seen, more?, valueAt};
 ghost use Rattle.reader.specs.Readings.{fieldAt, numberAt};
 use crate::cursor::Lines;
@@ -81,6 +82,19 @@ impl<'a> Lines<'a> {
         let value = self.value(key)?;
         match V::read(value) {
             Some(v) => Ok(v),
+            None => Err(Reason::UnlawfulValue.at(line)),
+        }
+    }
+
+    // The value of the line that comes, a number of at most `most`.
+    pub(crate) fn number(&mut self, key: &[u8], most: u32) -> Result<u32, Refusal>
+        ensures reads { λ r. ⌜ (r, place (now (self .exit))) ≡ numberAt (now (key .entry)) most (place (now (self .entry))) ⌝ }
+        ensures within { λ r. ⌜ made r (λ n. n ≤ most) ⌝ }
+    {
+        let line = self.line;
+        let value = self.value(key)?;
+        match decimal(value, most as u64) {
+            Some(n) => Ok(n as u32),
             None => Err(Reason::UnlawfulValue.at(line)),
         }
     }
