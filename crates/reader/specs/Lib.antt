@@ -1,6 +1,9 @@
+pub mod Faults
 pub mod Fews
 pub mod Lines
 pub mod Readings
+pub mod RequestFaults
 pub mod Requests
+pub mod SettingsFaults
 pub mod Tables
 pub mod Words
