@@ -1,5 +1,4 @@
 pub mod Faults
-pub mod Fews
 pub mod Lines
 pub mod Readings
 pub mod RequestFaults

@@ -19,13 +19,13 @@ use Rattle.identity.specs.Decimals.{decimalOf}
 use Rattle.identity.specs.Slices.{sliceOf}
 use Rattle.identity.specs.Subscribers.{supiOf}
 use Rattle.identity.specs.Words.{accessOf}
-use Rattle.reader.specs.declared.few.Few.{Few}
+use Rattle.few.specs.declared.few.Few.{Few}
 use Rattle.reader.specs.declared.request.Call.{Call}
 use Rattle.reader.specs.declared.request.Call.the-variants as call
 use Rattle.reader.specs.declared.request.Request.{Request}
 use Rattle.reader.specs.declared.words.Operation.{Operation}
 use Rattle.reader.specs.declared.words.Operation.the-variants.{Ue, Pdu}
-use Rattle.reader.specs.Fews.{held}
+use Rattle.few.specs.Fews.{held}
 use Rattle.reader.specs.Readings.{Reading, andThen, gives, fieldAt, checked, allAt}
 use Rattle.reader.specs.Words.{operationOf, ueFlagOf, pduFlagOf}
 

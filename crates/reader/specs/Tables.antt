@@ -17,8 +17,8 @@ use Rattle.identity.specs.Slices.{sliceOf}
 use Rattle.reader.specs.declared.settings.Block.{Block}
 use Rattle.reader.specs.declared.settings.Capacities.{Capacities}
 use Rattle.reader.specs.declared.settings.Settings.{Settings}
-use Rattle.reader.specs.declared.few.Few.{Few}
-use Rattle.reader.specs.Fews.{held}
+use Rattle.few.specs.declared.few.Few.{Few}
+use Rattle.few.specs.Fews.{held}
 use Rattle.reader.specs.Readings.{Reading, andThen, gives, fieldAt, numberAt, checked, allAt}
 use Rattle.reader.specs.Words.{countedOf}
 

@@ -1,8 +1,6 @@
 // Reads the texts of a depot: settings and requests, line by line.
 mod cursor;
-pub mod few;
 mod lines;
-mod list;
 pub mod request;
 pub mod requests;
 pub mod settings;

@@ -1,11 +1,11 @@
 // A request as it was read.
-use crate::few::Few;
 use crate::words::PduFlag;
 use crate::words::PduFlagDebug;
 use crate::words::PduFlagPartialEq;
 use crate::words::UeFlag;
 use crate::words::UeFlagDebug;
 use crate::words::UeFlagPartialEq;
+use few::few::Few;
 use identity::access::Access;
 use identity::snssai::Snssai;
 use identity::supi::Supi;

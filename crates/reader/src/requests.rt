@@ -1,16 +1,18 @@
 // Reading a request.
 ghost use mathlib.Core.Path.{_≡_};
-ghost use Rattle.reader.specs.Fews.{held};
+ghost use Prim.Native.Nat.{_<_};
+ghost use lib.ListN.{length};
+ghost use Rattle.std.specs.Vec.{made};
 ghost use Rattle.reader.specs.Lines.{place};
 ghost use Rattle.reader.specs.Requests.{listed, asked, callAt, ueCallAt, pduCallAt, sliceItem, slicesAt, requestOf};
 use crate::cursor::Lines;
-use crate::few::Few;
 use crate::request::Call;
 use crate::request::Request;
 use crate::words::Operation;
 use crate::words::OperationValue;
 use crate::words::PduFlagValue;
 use crate::words::UeFlagValue;
+use few::few::Few;
 use identity::access::AccessValue;
 use identity::decimal::U8Value;
 use identity::decimal::U16Value;
@@ -50,7 +52,8 @@ fn call(lines: &mut Lines) -> Result<(Call, Supi), Refusal>
 
 // The slice of the line that comes, where so many stand before it.
 fn slice_item(lines: &mut Lines, before: &[Snssai]) -> Result<Snssai, Refusal>
-    ensures { λ r. ⌜ (r, place (now (lines .exit))) ≡ sliceItem (now (before .entry)) (place (now (lines .entry))) ⌝ }
+    ensures few { λ r. ⌜ made r (λ _. length (now (before .entry)) < 8) ⌝ }
+    ensures reads { λ r. ⌜ (r, place (now (lines .exit))) ≡ sliceItem (now (before .entry)) (place (now (lines .entry))) ⌝ }
 {
     let line = lines.line();
     let slice = lines.field(b"slice=")?;

@@ -1,8 +1,8 @@
 // The settings of a depot as they were read.
-use crate::few::Few;
 use crate::words::Counted;
 use crate::words::CountedDebug;
 use crate::words::CountedPartialEq;
+use few::few::Few;
 use identity::snssai::Snssai;
 use identity::snssai::SnssaiDebug;
 use identity::snssai::SnssaiPartialEq;

@@ -2,7 +2,7 @@ use mathlib.Core.Path.{_≡_}
 use mathlib.Core.List.{[]}
 use Prim.Native.Nat.{_-_}
 use lib.ListN.{length}
-use Rattle.reader.specs.Fews.{held}
+use Rattle.few.specs.Fews.{held}
 use Rattle.reader.specs.Lines.{place}
 use Rattle.reader.specs.Readings.{allAt}
 use Rattle.reader.specs.Requests.{sliceItem}

@@ -3,11 +3,12 @@ use Prim.Native.Nat.{ℕ, _-_, _<_}
 use lib.ListN.{length}
 use Rattle.std.specs.declared.result.Result.the-variants.{Ok}
 use Rattle.std.proofs.shelf.Results.{err-from-errBy}
-use Rattle.reader.specs.Fews.{held}
+use Rattle.few.specs.Fews.{held}
 use Rattle.reader.specs.Lines.{place}
 use Rattle.reader.specs.Readings.{allAt}
 use Rattle.reader.specs.Tables.{blockAt, blocksAt}
-use Rattle.reader.proofs.Turns.{ended, broke, again, falls, pushed-in}
+use Rattle.few.proofs.Ends.{pushed-in}
+use Rattle.reader.proofs.Turns.{ended, broke, again, falls}
 use Rattle.reader.proofs.tables.blocks.Needs as need
 
 pub loop-next-holds : need.loop-next-holds

@@ -1,11 +1,11 @@
 ghost use mathlib.Core.Path.{_≡_};
 ghost use mathlib.Core.List.{[]};
-ghost use Rattle.reader.specs.Fews.{held, pushed};
+ghost use Rattle.few.specs.Fews.{held, pushed, extended};
 use crate::few::Few;
 
 impl<T: Copy, const N: usize> Few<T, N> {
     // No items; the filler stands in the places that are free.
-    pub(crate) fn new(filler: T) -> Few<T, N>
+    pub fn new(filler: T) -> Few<T, N>
         ensures { λ r. ⌜ held r ≡ [] ⌝ }
     {
         Few {
@@ -15,7 +15,7 @@ impl<T: Copy, const N: usize> Few<T, N> {
     }
 
     // One more item, or false where there is no place.
-    pub(crate) fn push(&mut self, item: T) -> bool
+    pub fn push(&mut self, item: T) -> bool
         ensures { λ r. ⌜ (r, held (now (self .exit))) ≡ pushed N item (held (now (self .entry))) ⌝ }
     {
         if self.len == N {
@@ -23,6 +23,19 @@ impl<T: Copy, const N: usize> Few<T, N> {
         }
         self.items[self.len] = item;
         self.len += 1;
+        true
+    }
+
+    // All of the items after those that are held, or false where there are not enough places.
+    pub fn extend(&mut self, items: &[T]) -> bool
+        ensures { λ r. ⌜ (r, held (now (self .exit))) ≡ extended N (now (items .entry)) (held (now (self .entry))) ⌝ }
+    {
+        if items.len() > N - self.len {
+            return false;
+        }
+        for item in items {
+            self.push(*item);
+        }
         true
     }
 

@@ -1,6 +1,6 @@
 use borrow.Author.Needs.{needs}
 use Rattle.std.proofs.shelf.Lists.{take-more-set, length-take-le}
-use Rattle.reader.proofs.few.Few.push.Needs as need
+use Rattle.few.proofs.few.Few.push.Needs as need
 
 pub returns : need.returns
 returns g c = search (needs, take-more-set, length-take-le)

@@ -1,0 +1,3 @@
+// A list of bounded length that lies in place.
+pub mod few;
+pub mod list;
