@@ -35,3 +35,7 @@ one-more n ys xs now next i y b h at room inv e =
     let new = pushed-in n y now next b (omega arith) e in
     let more : take (i + 1) ys ≡ take i ys ++ y ∷ [] = take-more ys i y h ∙ ap (λ z. take i ys ++ z ∷ []) (sym at) in
     new ∙ ap (λ l. l ++ y ∷ []) inv ∙ append-assoc xs (take i ys) (y ∷ []) ∙ ap (λ l. xs ++ l) (sym more)
+
+-- a text that was built so far, and one more part of it
+pub grown : {T : Type 0} (n : ℕ) (ys xs zs text : List T) (b : Bool) → xs ≡ text → length text + length ys ≤ n → (b, zs) ≡ extended n ys xs → zs ≡ text ++ ys
+grown n ys xs zs text b s h e = extended-in n ys xs zs b (rw s h) e ∙ ap (λ l. l ++ ys) s

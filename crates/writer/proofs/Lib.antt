@@ -1,0 +1,3 @@
+pub mod Backs
+pub mod Fits
+pub mod Fronts
