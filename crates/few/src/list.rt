@@ -1,5 +1,7 @@
 ghost use mathlib.Core.Path.{_≡_};
 ghost use mathlib.Core.List.{[]};
+ghost use Prim.Native.Nat.{_≤_};
+ghost use lib.ListN.{length};
 ghost use Rattle.few.specs.Fews.{held, pushed, extended};
 use crate::few::Few;
 
@@ -40,7 +42,8 @@ impl<T: Copy, const N: usize> Few<T, N> {
     }
 
     pub fn as_slice(&self) -> &[T]
-        ensures { λ r. ⌜ now r ≡ held (now (self .entry)) ⌝ }
+        ensures value { λ r. ⌜ now r ≡ held (now (self .entry)) ⌝ }
+        ensures few { λ r. ⌜ length (now r) ≤ N ⌝ }
     {
         let all = &self.items[..];
         &all[0..self.len]

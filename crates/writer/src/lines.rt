@@ -13,7 +13,8 @@ use few::few::Few;
 use identity::snssai::Snssai;
 use refusal::Refusal;
 
-fn slice_text(slice: Snssai) -> Few<u8, 16>
+// The line that names a slice.
+pub fn slice_text(slice: Snssai) -> Few<u8, 16>
     ensures { λ r. ⌜ held r ≡ sliceText slice ⌝ }
 {
     let mut text = Few::new(0);

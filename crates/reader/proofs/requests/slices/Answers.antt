@@ -21,7 +21,7 @@ returns-in-Break-slice c =
     let p = place (c .loop-slice .lines) in
     let one = sliceItem in
     let r = err-from-errBy (c .from-residual .result) (c .from-residual .ensures .1) in
-    let e = c .in-Break-slice .ensures tt .reads ∙ ap (λ b. one b p) (c .as-slice .ensures) in
+    let e = c .in-Break-slice .ensures tt .reads ∙ ap (λ b. one b p) (c .as-slice .ensures .value) in
     rw (r .1, r .2) (sym (broke (8 - length xs) one xs (c .in-Break-slice .field-0 .0) p (place (c .slice-item .last .lines)) e) ∙ c .loop-slice .inv)
 
 pub returns-then-not-more : need.returns-then-not-more
@@ -32,8 +32,8 @@ returns-then-not-more c =
     let p = place (c .loop-slice .lines) in
     let q = place (c .slice-item .last .lines) in
     let one = sliceItem in
-    let e = c .in-Continue-slice .ensures tt .reads ∙ ap (λ b. one b p) (c .as-slice .ensures) in
-    let h : length xs < 8 = rw (sym (c .as-slice .ensures)) (c .in-Continue-slice .ensures tt .few) in
+    let e = c .in-Continue-slice .ensures tt .reads ∙ ap (λ b. one b p) (c .as-slice .ensures .value) in
+    let h : length xs < 8 = rw (sym (c .as-slice .ensures .value)) (c .in-Continue-slice .ensures tt .few) in
     let y = pushed-in 8 x xs (held (c .push .last .self)) (c .push .result) h (c .push .ensures) in
     ap (λ l. (Ok l, q)) y ∙ sym (ended (8 - length xs) one xs x p q e (sym (c .if-not-more .ensures tt))) ∙ c .loop-slice .inv
 
@@ -44,8 +44,8 @@ loop-slice-again c =
     let p = place (c .loop-slice .lines) in
     let q = place (c .slice-item .last .lines) in
     let one = sliceItem in
-    let e = c .in-Continue-slice .ensures tt .reads ∙ ap (λ b. one b p) (c .as-slice .ensures) in
-    let h : length xs < 8 = rw (sym (c .as-slice .ensures)) (c .in-Continue-slice .ensures tt .few) in
+    let e = c .in-Continue-slice .ensures tt .reads ∙ ap (λ b. one b p) (c .as-slice .ensures .value) in
+    let h : length xs < 8 = rw (sym (c .as-slice .ensures .value)) (c .in-Continue-slice .ensures tt .few) in
     let y = pushed-in 8 x xs (held (c .push .last .self)) (c .push .result) h (c .push .ensures) in
     again 8 one xs (held (c .push .last .self)) x p q _ h y e (sym (c .if-not-more .ensures tt)) (c .loop-slice .inv)
 
@@ -53,5 +53,5 @@ pub loop-slice-less : need.loop-slice-less
 loop-slice-less c =
     let xs = held (c .loop-slice .slices) in
     let x = c .in-Continue-slice .slice in
-    let h : length xs < 8 = rw (sym (c .as-slice .ensures)) (c .in-Continue-slice .ensures tt .few) in
+    let h : length xs < 8 = rw (sym (c .as-slice .ensures .value)) (c .in-Continue-slice .ensures tt .few) in
     falls 8 xs (held (c .push .last .self)) x h (pushed-in 8 x xs (held (c .push .last .self)) (c .push .result) h (c .push .ensures))

@@ -21,7 +21,7 @@ returns-in-Break-next c =
     let p = place (c .loop-next .lines) in
     let one = blockAt (c .args .capacities) in
     let r = err-from-errBy (c .from-residual .result) (c .from-residual .ensures .1) in
-    let e = c .in-Break-next .ensures tt .reads ∙ ap (λ b. one b p) (c .as-slice .ensures) in
+    let e = c .in-Break-next .ensures tt .reads ∙ ap (λ b. one b p) (c .as-slice .ensures .value) in
     rw (r .1, r .2) (sym (broke (16 - length xs) one xs (c .in-Break-next .field-0 .0) p (place (c .block .last .lines)) e) ∙ c .loop-next .inv)
 
 pub returns-then-not-more : need.returns-then-not-more
@@ -32,8 +32,8 @@ returns-then-not-more c =
     let p = place (c .loop-next .lines) in
     let q = place (c .block .last .lines) in
     let one = blockAt (c .args .capacities) in
-    let e = c .in-Continue-next .ensures tt .reads ∙ ap (λ b. one b p) (c .as-slice .ensures) in
-    let h : length xs < 16 = rw (sym (c .as-slice .ensures)) (c .in-Continue-next .ensures tt .few) in
+    let e = c .in-Continue-next .ensures tt .reads ∙ ap (λ b. one b p) (c .as-slice .ensures .value) in
+    let h : length xs < 16 = rw (sym (c .as-slice .ensures .value)) (c .in-Continue-next .ensures tt .few) in
     let y = pushed-in 16 x xs (held (c .push .last .self)) (c .push .result) h (c .push .ensures) in
     ap (λ l. (Ok l, q)) y ∙ sym (ended (16 - length xs) one xs x p q e (sym (c .if-not-more .ensures tt))) ∙ c .loop-next .inv
 
@@ -44,8 +44,8 @@ loop-next-again c =
     let p = place (c .loop-next .lines) in
     let q = place (c .block .last .lines) in
     let one = blockAt (c .args .capacities) in
-    let e = c .in-Continue-next .ensures tt .reads ∙ ap (λ b. one b p) (c .as-slice .ensures) in
-    let h : length xs < 16 = rw (sym (c .as-slice .ensures)) (c .in-Continue-next .ensures tt .few) in
+    let e = c .in-Continue-next .ensures tt .reads ∙ ap (λ b. one b p) (c .as-slice .ensures .value) in
+    let h : length xs < 16 = rw (sym (c .as-slice .ensures .value)) (c .in-Continue-next .ensures tt .few) in
     let y = pushed-in 16 x xs (held (c .push .last .self)) (c .push .result) h (c .push .ensures) in
     again 16 one xs (held (c .push .last .self)) x p q _ h y e (sym (c .if-not-more .ensures tt)) (c .loop-next .inv)
 
@@ -53,5 +53,5 @@ pub loop-next-less : need.loop-next-less
 loop-next-less c =
     let xs = held (c .loop-next .blocks) in
     let x = c .in-Continue-next .next in
-    let h : length xs < 16 = rw (sym (c .as-slice .ensures)) (c .in-Continue-next .ensures tt .few) in
+    let h : length xs < 16 = rw (sym (c .as-slice .ensures .value)) (c .in-Continue-next .ensures tt .few) in
     falls 16 xs (held (c .push .last .self)) x h (pushed-in 16 x xs (held (c .push .last .self)) (c .push .result) h (c .push .ensures))
