@@ -1,4 +1,5 @@
 -- What is printed of a piece.
+use mathlib.Core.Bool.{Bool, true, false}
 use mathlib.Core.List.{List}
 use Prim.Native.Nat.{ℕ}
 use Rattle.std.specs.shelf.Lists.{joined}
@@ -33,3 +34,8 @@ settingsReport text = settingsLines (settingsOf stores text)
 
 unfoldable pub requestReport : List ℕ → List ℕ
 requestReport text = requestLines (requestOf text)
+
+-- the first piece is settings, the others are requests
+abbrev pub pieceReport : Bool → List ℕ → List ℕ
+pieceReport true text = settingsReport text
+pieceReport false text = requestReport text

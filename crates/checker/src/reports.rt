@@ -3,8 +3,9 @@ ghost use mathlib.Core.Path.{_≡_};
 ghost use Prim.Native.Nat.{_≤_};
 ghost use lib.ListN.{length};
 ghost use Rattle.few.specs.Fews.{held};
+ghost use Rattle.std.specs.Options.{Cases as BySome};
 ghost use Rattle.writer.specs.Puts.{putAt};
-ghost use Rattle.checker.specs.Reports.{sliceLines, settingsReport, requestReport};
+ghost use Rattle.checker.specs.Reports.{sliceLines, settingsReport, requestReport, pieceReport};
 use few::few::Few;
 use identity::snssai::Snssai;
 use reader::requests::read_request;
@@ -27,7 +28,7 @@ fn slice_lines(slices: &[Snssai]) -> Few<u8, 128>
 }
 
 // `settings=ok` or the refusal, at the front of the buffer, where it fits.
-pub fn report_settings(text: &[u8], out: &mut [u8]) -> Option<usize>
+fn report_settings(text: &[u8], out: &mut [u8]) -> Option<usize>
     ensures { λ r. ⌜ (r, now (out .exit)) ≡ putAt 0 (settingsReport (now (text .entry))) (now (out .entry)) ⌝ }
 {
     let capacities = Capacities {
@@ -42,11 +43,23 @@ pub fn report_settings(text: &[u8], out: &mut [u8]) -> Option<usize>
 }
 
 // The slices that a request names, or the refusal, at the front of the buffer, where it fits.
-pub fn report_request(text: &[u8], out: &mut [u8]) -> Option<usize>
+fn report_request(text: &[u8], out: &mut [u8]) -> Option<usize>
     ensures { λ r. ⌜ (r, now (out .exit)) ≡ putAt 0 (requestReport (now (text .entry))) (now (out .entry)) ⌝ }
 {
     match read_request(text) {
         Ok(request) => put(out, 0, slice_lines(request.slices.as_slice()).as_slice()),
         Err(refusal) => put_refusal(out, 0, refusal),
+    }
+}
+
+// The report on a piece, the first or a later one, at the front of the buffer; nothing where it does not fit.
+pub fn report(piece: &[u8], first: bool, out: &mut [u8]) -> Option<usize>
+    ensures writes { λ r. ⌜ (r, now (out .exit)) ≡ putAt 0 (pieceReport first (now (piece .entry))) (now (out .entry)) ⌝ }
+    ensures within { λ r. ⌜ BySome r (Unit {0}) (λ n. n ≤ length (now (out .entry))) ⌝ }
+{
+    if first {
+        report_settings(piece, out)
+    } else {
+        report_request(piece, out)
     }
 }

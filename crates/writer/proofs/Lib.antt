@@ -1,3 +1,4 @@
 pub mod Backs
 pub mod Fits
 pub mod Fronts
+pub mod Within
