@@ -3,7 +3,9 @@ ghost use mathlib.Core.Path.{_≡_};
 ghost use Prim.Native.Nat.{_<_};
 ghost use lib.ListN.{length};
 ghost use Rattle.std.specs.Vec.{made};
+ghost use Rattle.reader.specs.Faults.{Decided};
 ghost use Rattle.reader.specs.Lines.{place};
+ghost use Rattle.reader.specs.RequestFaults.{RequestFault};
 ghost use Rattle.reader.specs.Requests.{listed, asked, callAt, ueCallAt, pduCallAt, sliceItem, slicesAt, requestOf};
 use crate::cursor::Lines;
 use crate::request::Call;
@@ -80,8 +82,7 @@ fn slices(lines: &mut Lines) -> Result<Few<Snssai, 8>, Refusal>
     }
 }
 
-// What a request's text says, or why and at which line it is refused.
-pub fn read_request(text: &[u8]) -> Result<Request, Refusal>
+fn whole(text: &[u8]) -> Result<Request, Refusal>
     ensures { λ r. ⌜ asked r ≡ requestOf (now (text .entry)) ⌝ }
 {
     let mut lines = Lines::new(text);
@@ -94,4 +95,12 @@ pub fn read_request(text: &[u8]) -> Result<Request, Refusal>
         access,
         slices,
     })
+}
+
+// What a request's text says, or why and at which line it is refused: it is accepted exactly when no refusal fits.
+pub fn read_request(text: &[u8]) -> Result<Request, Refusal>
+    ensures reads { λ r. ⌜ asked r ≡ requestOf (now (text .entry)) ⌝ }
+    ensures decided { λ r. ⌜ Decided (RequestFault (now (text .entry))) (asked r) ⌝ }
+{
+    whole(text)
 }

@@ -3,7 +3,9 @@ ghost use mathlib.Core.Path.{_≡_};
 ghost use Prim.Native.Nat.{_≤_, _<_, _^_};
 ghost use lib.ListN.{length};
 ghost use Rattle.std.specs.Vec.{made};
+ghost use Rattle.reader.specs.Faults.{Decided};
 ghost use Rattle.reader.specs.Lines.{place};
+ghost use Rattle.reader.specs.SettingsFaults.{SettingsFault};
 ghost use Rattle.reader.specs.Tables.{named, entries, sessions, sliceLine, entriesLine, sessionsLine, blockAt, blocksAt, listed, tabled, settingsOf};
 use crate::cursor::Lines;
 use crate::settings::Block;
@@ -142,11 +144,19 @@ fn blocks(lines: &mut Lines, capacities: Capacities) -> Result<Few<Block, 16>, R
     }
 }
 
-// What a text of settings says for stores of these capacities, or why and at which line it is refused.
-pub fn read_settings(text: &[u8], capacities: Capacities) -> Result<Settings, Refusal>
+fn whole(text: &[u8], capacities: Capacities) -> Result<Settings, Refusal>
     ensures { λ r. ⌜ tabled r ≡ settingsOf capacities (now (text .entry)) ⌝ }
 {
     let mut lines = Lines::new(text);
     let blocks = blocks(&mut lines, capacities)?;
     Ok(Settings { blocks })
+}
+
+// What a text of settings says for stores of these capacities, or why and at which line it is refused: it is
+// accepted exactly when no refusal fits.
+pub fn read_settings(text: &[u8], capacities: Capacities) -> Result<Settings, Refusal>
+    ensures reads { λ r. ⌜ tabled r ≡ settingsOf capacities (now (text .entry)) ⌝ }
+    ensures decided { λ r. ⌜ Decided (SettingsFault capacities (now (text .entry))) (tabled r) ⌝ }
+{
+    whole(text, capacities)
 }

@@ -9,8 +9,8 @@ unfolding requestReport
 returns-in-Ok c =
     let out = c .args .out .now in
     let text = c .as-slice-in-Ok .ensures .value ∙ c .slice-lines .ensures ∙ ap sliceLines (c .as-slice .ensures .value) in
-    c .put .ensures ∙ ap (λ t. putAt 0 t out) text ∙ ap (λ r. putAt 0 (requestLines r) out) (c .in-Ok .ensures tt)
+    c .put .ensures ∙ ap (λ t. putAt 0 t out) text ∙ ap (λ r. putAt 0 (requestLines r) out) (c .in-Ok .ensures tt .reads)
 
 pub returns-in-Err : need.returns-in-Err
 unfolding requestReport
-returns-in-Err c = c .put-refusal .ensures ∙ ap (λ r. putAt 0 (requestLines r) (c .args .out .now)) (c .in-Err .ensures tt)
+returns-in-Err c = c .put-refusal .ensures ∙ ap (λ r. putAt 0 (requestLines r) (c .args .out .now)) (c .in-Err .ensures tt .reads)

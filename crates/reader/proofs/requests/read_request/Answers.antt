@@ -1,19 +1,11 @@
-use borrow.Author.Needs.{needs}
-use Rattle.reader.specs.Requests.{requestOf}
+use mathlib.Core.Path.{sym, subst}
+use Rattle.reader.specs.Faults.{Decided}
+use Rattle.reader.specs.RequestFaults.{RequestFault}
+use Rattle.reader.proofs.RequestLaw.{request-decided}
 use Rattle.reader.proofs.requests.read_request.Needs as need
 
-pub returns-in-Break-call : need.returns-in-Break-call
-unfolding requestOf
-returns-in-Break-call c = search needs
-
-pub returns-in-Break-access : need.returns-in-Break-access
-unfolding requestOf
-returns-in-Break-access c = search needs
-
-pub returns-in-Break-slices : need.returns-in-Break-slices
-unfolding requestOf
-returns-in-Break-slices c = search needs
-
 pub returns : need.returns
-unfolding requestOf
-returns c = search needs
+returns c =
+    let text = c .args .text .now in
+    let e = c .whole .ensures in
+    record { reads = e; decided = subst (Decided (RequestFault text)) (sym e) (request-decided text) }
