@@ -1,9 +1,10 @@
 // What is printed of a piece.
+ghost use mathlib.Core.Bool.{true};
 ghost use mathlib.Core.Path.{_≡_};
 ghost use Prim.Native.Nat.{_≤_};
 ghost use lib.ListN.{length};
 ghost use Rattle.few.specs.Fews.{held};
-ghost use Rattle.std.specs.Options.{Cases as BySome};
+ghost use Rattle.std.specs.Options.{isSome, Cases as BySome};
 ghost use Rattle.writer.specs.Puts.{putAt};
 ghost use Rattle.checker.specs.Reports.{sliceLines, settingsReport, requestReport, pieceReport};
 use few::few::Few;
@@ -29,7 +30,8 @@ fn slice_lines(slices: &[Snssai]) -> Few<u8, 128>
 
 // `settings=ok` or the refusal, at the front of the buffer, where it fits.
 fn report_settings(text: &[u8], out: &mut [u8]) -> Option<usize>
-    ensures { λ r. ⌜ (r, now (out .exit)) ≡ putAt 0 (settingsReport (now (text .entry))) (now (out .entry)) ⌝ }
+    ensures writes { λ r. ⌜ (r, now (out .exit)) ≡ putAt 0 (settingsReport (now (text .entry))) (now (out .entry)) ⌝ }
+    ensures fits { λ r. ⌜ (264 ≤ length (now (out .entry)) → isSome r ≡ true) ⌝ }
 {
     let capacities = Capacities {
         ues: 1024,
@@ -44,7 +46,8 @@ fn report_settings(text: &[u8], out: &mut [u8]) -> Option<usize>
 
 // The slices that a request names, or the refusal, at the front of the buffer, where it fits.
 fn report_request(text: &[u8], out: &mut [u8]) -> Option<usize>
-    ensures { λ r. ⌜ (r, now (out .exit)) ≡ putAt 0 (requestReport (now (text .entry))) (now (out .entry)) ⌝ }
+    ensures writes { λ r. ⌜ (r, now (out .exit)) ≡ putAt 0 (requestReport (now (text .entry))) (now (out .entry)) ⌝ }
+    ensures fits { λ r. ⌜ (264 ≤ length (now (out .entry)) → isSome r ≡ true) ⌝ }
 {
     match read_request(text) {
         Ok(request) => put(out, 0, slice_lines(request.slices.as_slice()).as_slice()),
@@ -52,10 +55,11 @@ fn report_request(text: &[u8], out: &mut [u8]) -> Option<usize>
     }
 }
 
-// The report on a piece, the first or a later one, at the front of the buffer; nothing where it does not fit.
+// The report on a piece, the first or a later one, at the front of the buffer: 264 bytes are always enough.
 pub fn report(piece: &[u8], first: bool, out: &mut [u8]) -> Option<usize>
     ensures writes { λ r. ⌜ (r, now (out .exit)) ≡ putAt 0 (pieceReport first (now (piece .entry))) (now (out .entry)) ⌝ }
     ensures within { λ r. ⌜ BySome r (Unit {0}) (λ n. n ≤ length (now (out .entry))) ⌝ }
+    ensures fits { λ r. ⌜ (264 ≤ length (now (out .entry)) → isSome r ≡ true) ⌝ }
 {
     if first {
         report_settings(piece, out)

@@ -10,8 +10,6 @@ use identity::access::Access;
 use identity::snssai::Snssai;
 use identity::supi::Supi;
 
-pub const MOST_SLICES: usize = 8;
-
 // What is asked for the UE: a registration at an AMF, or one of its PDU sessions.
 #[derive(Clone, Copy, PartialEq, Eq, Debug)]
 pub enum Call {

@@ -1,5 +1,9 @@
 // The lines of answers, each written whole or not at all.
+ghost use mathlib.Core.Bool.{true};
 ghost use mathlib.Core.Path.{_≡_};
+ghost use Prim.Native.Nat.{_+_, _≤_};
+ghost use lib.ListN.{length};
+ghost use Rattle.std.specs.Options.{isSome};
 ghost use Rattle.std.specs.declared.option.Option.the-variants.{Some};
 ghost use Rattle.few.specs.Fews.{held};
 ghost use Rattle.identity.specs.Slices.{sliceOf};
@@ -51,9 +55,10 @@ pub fn put_slice_line(out: &mut [u8], at: usize, slice: Snssai) -> Option<usize>
     put(out, at, slice_text(slice).as_slice())
 }
 
-// The two lines of a refusal.
+// The two lines of a refusal, which never take more than 64 bytes.
 pub fn put_refusal(out: &mut [u8], at: usize, refusal: Refusal) -> Option<usize>
-    ensures { λ r. ⌜ (r, now (out .exit)) ≡ putAt at (refusalText refusal) (now (out .entry)) ⌝ }
+    ensures writes { λ r. ⌜ (r, now (out .exit)) ≡ putAt at (refusalText refusal) (now (out .entry)) ⌝ }
+    ensures fits { λ r. ⌜ (at + 64 ≤ length (now (out .entry)) → isSome r ≡ true) ⌝ }
 {
     put(out, at, refusal_text(refusal).as_slice())
 }
