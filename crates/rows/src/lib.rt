@@ -1,0 +1,3 @@
+// Two makes of store over cells that the caller lends.
+pub mod key_row;
+pub mod loose_row;

@@ -1,0 +1,5 @@
+pub mod Answers
+pub mod Exacts
+pub mod Laws
+pub mod Places
+pub mod Walks

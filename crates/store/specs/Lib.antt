@@ -1,0 +1,4 @@
+pub mod Exacts
+pub mod Maps
+pub mod Orders
+pub mod Walks
