@@ -1,13 +1,13 @@
 // A simple model of a store: what each of 64 keys has, and how many have something.
 #[derive(Drop)]
-pub struct Model {
+pub(crate) struct Model {
     values: [Option<u8>; 64],
     held: usize,
     capacity: usize,
 }
 
 impl Model {
-    pub fn new(capacity: usize) -> Model {
+    pub(crate) fn new(capacity: usize) -> Model {
         Model {
             values: [None; 64],
             held: 0,
@@ -15,16 +15,16 @@ impl Model {
         }
     }
 
-    pub fn capacity(&self) -> usize {
+    pub(crate) fn capacity(&self) -> usize {
         self.capacity
     }
 
-    pub fn size(&self) -> usize {
+    pub(crate) fn size(&self) -> usize {
         self.held
     }
 
     // The least key that has something, from the given one on.
-    pub fn next(&self, from: u8) -> Option<u8> {
+    pub(crate) fn next(&self, from: u8) -> Option<u8> {
         for key in from..64 {
             if self.find(key).is_some() {
                 return Some(key);
@@ -33,7 +33,7 @@ impl Model {
         None
     }
 
-    pub fn find(&self, key: u8) -> Option<u8> {
+    pub(crate) fn find(&self, key: u8) -> Option<u8> {
         if key < 64 {
             return self.values[key as usize];
         }
@@ -41,7 +41,7 @@ impl Model {
     }
 
     // Whether the value was accepted.
-    pub fn put(&mut self, key: u8, value: u8) -> bool {
+    pub(crate) fn put(&mut self, key: u8, value: u8) -> bool {
         if key >= 64 {
             return false;
         }
@@ -55,7 +55,7 @@ impl Model {
         true
     }
 
-    pub fn take(&mut self, key: u8) -> bool {
+    pub(crate) fn take(&mut self, key: u8) -> bool {
         if key >= 64 || self.values[key as usize].is_none() {
             return false;
         }

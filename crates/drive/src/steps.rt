@@ -9,14 +9,14 @@ use store::walk::keys_from;
 
 // How many answers were compared, how many puts were refused, and how many answers differ.
 #[derive(Clone, Copy)]
-pub struct Tally {
-    pub answers: u32,
-    pub refused: u32,
-    pub differ: u32,
+pub(crate) struct Tally {
+    pub(crate) answers: u32,
+    pub(crate) refused: u32,
+    pub(crate) differ: u32,
 }
 
 impl Tally {
-    pub fn new() -> Tally {
+    pub(crate) fn new() -> Tally {
         Tally {
             answers: 0,
             refused: 0,
@@ -24,7 +24,7 @@ impl Tally {
         }
     }
 
-    pub fn add(&mut self, agrees: bool) {
+    pub(crate) fn add(&mut self, agrees: bool) {
         self.answers = self.answers.saturating_add(1);
         if !agrees {
             self.differ = self.differ.saturating_add(1);
@@ -74,7 +74,7 @@ fn step<S: Store<Key = Number, Value = u8>>(
 }
 
 // Two thousand steps; the store must be empty, and the model too.
-pub fn drive<S: Store<Key = Number, Value = u8>>(
+pub(crate) fn drive<S: Store<Key = Number, Value = u8>>(
     store: &mut S,
     model: &mut Model,
     dice: &mut Dice,
@@ -89,7 +89,7 @@ pub fn drive<S: Store<Key = Number, Value = u8>>(
 }
 
 // The question for the next key, from before the first to past the last.
-pub fn drive_walking<S: WalkingStore + Store<Key = Number, Value = u8>>(
+pub(crate) fn drive_walking<S: WalkingStore + Store<Key = Number, Value = u8>>(
     store: &S,
     model: &Model,
 ) -> Tally {
@@ -105,7 +105,7 @@ pub fn drive_walking<S: WalkingStore + Store<Key = Number, Value = u8>>(
 }
 
 // A walk over all keys: each key of the model is met once, in order, and no other.
-pub fn drive_walk<S: WalkingStore + Store<Key = Number, Value = u8>>(
+pub(crate) fn drive_walk<S: WalkingStore + Store<Key = Number, Value = u8>>(
     store: &S,
     model: &Model,
 ) -> Tally {
