@@ -1,9 +1,12 @@
 // Drives each make of store and a simple model through the same steps, and counts the answers that differ.
 mod dice;
+mod found;
 mod model;
 mod steps;
 
 use crate::dice::Dice;
+use crate::found::found_in_key_row;
+use crate::found::found_in_loose_row;
 use crate::model::Model;
 use crate::steps::Tally;
 use crate::steps::drive;
@@ -66,5 +69,15 @@ fn main(rt: LibcRuntime) -> io::Result<()> {
     tell(&rt, "single", 1, tally)?;
     let tally = drive_walking(&single, &model);
     tell(&rt, "next of a single", 1, tally)?;
+    let mut row = [Entry {
+        key: Number { value: 9 },
+        value: 9u8,
+    }; 64];
+    if let Some(value) = found_in_key_row(&mut row, Number { value: 200 }, 7) {
+        println!(rt, "a new key row finds {value} again")?;
+    }
+    if let Some(value) = found_in_loose_row(&mut row, Number { value: 200 }, 8) {
+        println!(rt, "a new loose row finds {value} again")?;
+    }
     Ok(())
 }

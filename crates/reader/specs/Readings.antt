@@ -6,6 +6,8 @@ use Rattle.std.specs.declared.option.Option.{Option}
 use Rattle.std.specs.declared.option.Option.the-variants.{Some, None}
 use Rattle.std.specs.declared.result.Result.{Result}
 use Rattle.std.specs.declared.result.Result.the-variants.{Ok, Err}
+use Rattle.few.specs.declared.few.Few.{Few}
+use Rattle.few.specs.Fews.{held}
 use Rattle.refusal.specs.declared.Reason.{Reason}
 use Rattle.refusal.specs.declared.Reason.the-variants.{UnlawfulValue}
 use Rattle.refusal.specs.declared.Refusal.{Refusal}
@@ -60,3 +62,8 @@ checked m fault p = (tested (p .1) fault (m p .0), m p .1)
 unfoldable pub allAt : {A : Type 0} → ℕ → (List A → Reading A) → List A → Reading (List A)
 allAt zero one done = andThen (one done) (λ x. gives (done ++ x ∷ []))
 allAt (suc n) one done = andThen (one done) (λ x p. cond (more? p) (allAt n one (done ++ x ∷ []) p) (Ok (done ++ x ∷ []), p))
+
+-- what was read into a bounded list, as a list
+abbrev pub listed : {A : Type 0} {N : ℕ} → Result (Few A N) Refusal → Result (List A) Refusal
+listed (Ok f) = Ok (held f)
+listed (Err e) = Err e

@@ -19,7 +19,6 @@ use Rattle.identity.specs.Decimals.{decimalOf}
 use Rattle.identity.specs.Slices.{sliceOf}
 use Rattle.identity.specs.Subscribers.{supiOf}
 use Rattle.identity.specs.Words.{accessOf}
-use Rattle.few.specs.declared.few.Few.{Few}
 use Rattle.reader.specs.declared.request.Call.{Call}
 use Rattle.reader.specs.declared.request.Call.the-variants as call
 use Rattle.reader.specs.declared.request.Request.{Request}
@@ -39,10 +38,6 @@ pub record Asked : Type 0 where
 abbrev pub asked : Result Request Refusal → Result Asked Refusal
 asked (Ok r) = Ok (record { call = r .call; ue = r .ue; access = r .access; slices = held (r .slices) })
 asked (Err e) = Err e
-
-abbrev pub listed : Result (Few Snssai 8) Refusal → Result (List Snssai) Refusal
-listed (Ok f) = Ok (held f)
-listed (Err e) = Err e
 
 abbrev pub ueCallAt : Reading (Call × Supi)
 ueCallAt =

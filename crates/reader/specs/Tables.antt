@@ -17,7 +17,6 @@ use Rattle.identity.specs.Slices.{sliceOf}
 use Rattle.reader.specs.declared.settings.Block.{Block}
 use Rattle.reader.specs.declared.settings.Capacities.{Capacities}
 use Rattle.reader.specs.declared.settings.Settings.{Settings}
-use Rattle.few.specs.declared.few.Few.{Few}
 use Rattle.few.specs.Fews.{held}
 use Rattle.reader.specs.Readings.{Reading, andThen, gives, fieldAt, numberAt, checked, allAt}
 use Rattle.reader.specs.Words.{countedOf}
@@ -82,10 +81,6 @@ blockAt c bs =
 abbrev pub tabled : Result Settings Refusal → Result (List Block) Refusal
 tabled (Ok s) = Ok (held (s .blocks))
 tabled (Err e) = Err e
-
-abbrev pub listed : Result (Few Block 16) Refusal → Result (List Block) Refusal
-listed (Ok f) = Ok (held f)
-listed (Err e) = Err e
 
 -- one block or more, up to the end of the text
 unfoldable pub blocksAt : Capacities → Reading (List Block)

@@ -1,4 +1,3 @@
-pub mod Exacts
 pub mod Maps
 pub mod Orders
 pub mod Walks
