@@ -1,4 +1,6 @@
 // Drives each make of store and a simple model through the same steps, and counts the answers that differ.
+#![tactic(auto)]
+
 mod dice;
 mod found;
 mod model;

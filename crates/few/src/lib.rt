@@ -1,3 +1,5 @@
 // A list of bounded length that lies in place.
+#![tactic(auto)]
+
 pub mod few;
 pub mod list;

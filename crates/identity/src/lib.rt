@@ -1,4 +1,6 @@
 // The identities that a depot's texts name, and how each is written.
+#![tactic(auto)]
+
 pub mod access;
 pub mod bytes;
 mod class;

@@ -1,3 +1,5 @@
 // Examples of the keys and words of entries.
+#![tactic(auto)]
+
 #[cfg(test)]
 mod keys;

@@ -1,4 +1,6 @@
 // Reads the texts of a depot: settings and requests, line by line.
+#![tactic(auto)]
+
 mod cursor;
 mod lines;
 pub mod request;

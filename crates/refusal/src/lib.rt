@@ -1,4 +1,6 @@
 // Why a call is refused, and at which line of its text.
+#![tactic(auto)]
+
 ghost use Rattle.std.specs.Prelude.{◌≡◌};
 ghost use Rattle.refusal.specs.Refusals.{number, refusal};
 

@@ -1,3 +1,5 @@
 // Two makes of store over cells that the caller lends.
+#![tactic(auto)]
+
 pub mod key_row;
 pub mod loose_row;

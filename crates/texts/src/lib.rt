@@ -1,4 +1,6 @@
 // Examples of every text that is read, refused or written.
+#![tactic(auto)]
+
 #[cfg(test)]
 mod identities;
 #[cfg(test)]

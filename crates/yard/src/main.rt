@@ -1,4 +1,6 @@
 // Checks the texts of a depot on standard input: settings first, then requests.
+#![tactic(auto)]
+
 ghost use Rattle.std.specs.Prelude.{◌≤◌, length, IfOk};
 
 use checker::pieces::Pieces;
