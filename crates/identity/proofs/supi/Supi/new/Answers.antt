@@ -17,5 +17,5 @@ invariant-of-result c =
 pub returns : goal.returns
 returns c =
     let bs = c.args.imsi.now in
-    let d = digits_read bs c.in-ok-value.value c.in-ok-value.ensures.reads in
+    let d = digits_read bs c.in_ok-value.value c.in_ok-value.ensures.reads in
     imsi_some bs _ (omega arith) (omega arith) d.0 refl d.1
