@@ -1,5 +1,5 @@
 -- An identity is made of its plain fields: the bounds in its type add nothing to them.
-use Rattle.std.proofs.Common.{◌≡◌, ℕ, ◌^◌, ◌<◌, ◌≤◌, Some, None, Option, refl, arith}
+use Rattle.std.proofs.Common.{◌≡◌, ℕ, ◌^◌, ◌<◌, ◌≤◌, Some, None, refl, arith}
 use native.Mathlib.Bridge.{le_prop}
 use native.Mathlib.Decide.{dec_le, dec_lt}
 use Rattle.identity.specs.Slices.{snssai_where, snssai}

@@ -1,5 +1,5 @@
 -- The numbers that name an NF or a PDU session are made of their plain fields.
-use Rattle.std.proofs.Common.{◌≡◌, ℕ, ◌<◌, Some, None, Option, refl}
+use Rattle.std.proofs.Common.{◌≡◌, Some, None, refl}
 use native.Mathlib.Bridge.{le_prop}
 use native.Mathlib.Decide.{dec_lt}
 use Rattle.identity.specs.Numbers.{provided, nf, session}

@@ -1,5 +1,5 @@
 -- The plain numbers that name an NF or a PDU session, and how they are written.
-use Rattle.std.specs.Prelude.{ℕ, ◌<◌, List, Some, None, Option}
+use Rattle.std.specs.Prelude.{ℕ, List, Some, None, Option}
 use Rattle.std.proofs.Math.Decide.{dec_lt}
 use Rattle.identity.specs.Chains.{given}
 use Rattle.identity.specs.Decimals.{decimal_of}

@@ -1,5 +1,5 @@
 -- A slice's identity, and how it is written.
-use Rattle.std.specs.Prelude.{ℕ, ◌+◌, ◌-◌, ◌*◌, ◌<◌, Bool, cond, ◌&&◌, List, length, Some, None, Option, ◌==◌, slice_index}
+use Rattle.std.specs.Prelude.{ℕ, ◌+◌, ◌-◌, ◌*◌, ◌<◌, cond, ◌&&◌, List, length, Some, None, Option, ◌==◌, slice_index}
 use Rattle.std.proofs.Math.Decide.{dec_lt}
 use Rattle.identity.specs.Chains.{given}
 use Rattle.identity.specs.Classes.{class_of}

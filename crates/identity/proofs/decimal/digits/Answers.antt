@@ -1,9 +1,9 @@
-use Rattle.std.proofs.Common.{sym, ◌∙◌, arith, rules}
+use Rattle.std.proofs.Common.{sym, ◌∙◌, rules}
 use Rattle.identity.proofs.Digits.{past, step, stop, done}
 use Rattle.identity.proofs.decimal.digits.Goals as goal
 
-pub returns-in-default : goal.returns-in-default
-returns-in-default c = record { reads = search (rules, stop); within = tt }
+pub returns-in_default : goal.returns-in_default
+returns-in_default c = record { reads = search (rules, stop); within = tt }
 
 pub returns-then-next-most : goal.returns-then-next-most
 returns-then-next-most c =
