@@ -5,7 +5,7 @@ use Rattle.refusal.specs.declared.Reason.TheVariants.{StoreFull}
 use Rattle.refusal.specs.declared.Refusal.{Refusal}
 use Rattle.refusal.specs.Refusals.{refusal}
 use Rattle.store.specs.declared.entry.Entry.{Entry}
-use Rattle.store.specs.Maps.{holds, adding, removing, fits, putting, taking}
+use Rattle.store.specs.Maps.{holds, adding, removing, putting, taking}
 
 module _ {K V : Type 0} (below : K → K → Bool) (c : ℕ) (es fs : List (Entry K V)) (k : K) where
   -- the key was held

@@ -1,8 +1,8 @@
 -- The laws of the map: what is held and found after a key was added or removed, and what comes first.
-use Rattle.std.proofs.Common.{◌≡◌, ℕ, zero, suc, ◌+◌, ◌<◌, ◌≤◌, Bool, true, false, cond, not, List, [], ◌∷◌, ◌++◌, length, take, Some, None, Option, sym, refl, ap, ◌∙◌, arith}
+use Rattle.std.proofs.Common.{◌≡◌, ◌+◌, Bool, true, false, cond, List, [], ◌∷◌, length, Some, None, refl, arith}
 use Rattle.store.specs.declared.entry.Entry.{Entry}
 use Rattle.store.specs.Orders.{Order}
-use Rattle.store.specs.Maps.{entry, lookup, holds, adding, removing, least_from, keys, keys_not_below, Ascending, Leads}
+use Rattle.store.specs.Maps.{lookup, holds, adding, removing, least_from, Ascending, Leads}
 
 pub asymmetric : {K : Type 0} {below : K → K → Bool} (o : Order below) (a b : K) → below a b ≡ true → below b a ≡ false
 asymmetric o a b p = let t = o.transitive a b a p in let i = o.irreflexive a in grind arith

@@ -1,5 +1,5 @@
 -- The map by the place of a key in its list.
-use Rattle.std.proofs.Common.{◌≡◌, ℕ, zero, suc, ◌+◌, ◌<◌, ◌≤◌, Bool, true, false, cond, not, eqb, ltb, List, [], ◌∷◌, ◌++◌, length, get_or, take, drop, set, is_some, Some, None, Option, sym, refl, ap, ◌∙◌, arith}
+use Rattle.std.proofs.Common.{◌≡◌, ◌<◌, ◌≤◌, Bool, true, false, List, [], ◌∷◌, length, get_or, set, is_some, Some, None, refl, arith}
 use Rattle.std.specs.List.{insert, remove}
 use Rattle.store.specs.declared.entry.Entry.{Entry}
 use Rattle.store.specs.Maps.{entry, lookup, holds, place, adding, removing, least_from}

@@ -1,9 +1,7 @@
 -- Orders by several parts in turn: their laws, and what `cmp` says of them.
-use Rattle.std.proofs.Common.{◌≡◌, ℕ, ◌<◌, Bool, true, false, cond, ltb, ◌⊎◌, Ordering, Less, Equal, Greater, sym, ◌∙◌, subst, inl, inr, arith}
-use Rattle.std.specs.Cmp.Derive.{Lex}
-use Rattle.std.specs.Ordering.{MatchOrdering}
+use Rattle.std.proofs.Common.{◌≡◌, ℕ, Bool, true, false, ltb, Ordering, Less, Equal, Greater, sym, ◌∙◌, arith}
+use Rattle.std.specs.Ordering.{MatchOrdering, nat_cmp, ordering_then}
 use Rattle.std.proofs.lemmas.Bool.Decides.{nat_tests}
-use Rattle.std.proofs.lemmas.Bool.{lt-ltb}
 use Rattle.store.specs.Orders.{Order, in_turn, through}
 
 pub number_order : Order ltb
@@ -44,28 +42,26 @@ module _ {A B : Type 0} {f : A → A → Bool} {g : B → B → Bool} (o : Order
   pub in_turn_order : Order (in_turn f g)
   in_turn_order = record { irreflexive = turn_irreflexive; transitive = turn_transitive; connected = turn_connected }
 
--- an answer of `cmp` of which P holds ranks a and b by the order
-abbrev pub Ranks : {A : Type 0} → (A → A → Bool) → A → A → (Ordering → Type 0) → Type 0
-Ranks below a b P = (r : Ordering) → P r → MatchOrdering r (below a b ≡ true) (a ≡ b) (below b a ≡ true)
+-- the answer r ranks a and b by the order
+abbrev pub Ranks : {A : Type 0} → (A → A → Bool) → A → A → Ordering → Type 0
+Ranks below a b r = MatchOrdering r (below a b ≡ true) (a ≡ b) (below b a ≡ true)
 
-pub number_ranks : (a b : ℕ) → Ranks ltb a b (λ r. MatchOrdering r (a < b) (a ≡ b) (b < a))
-number_ranks a b Less h = lt-ltb a b h
-number_ranks a b Equal h = h
-number_ranks a b Greater h = lt-ltb b a h
+pub number_ranks : (a b : ℕ) → Ranks ltb a b (nat_cmp a b)
+number_ranks a b = grind (arith, nat_tests)
 
-pub through_ranks : {K A : Type 0} (below : A → A → Bool) (stands : K → A) → ((x y : K) → stands x ≡ stands y → x ≡ y) → (x y : K) (P : Ordering → Type 0) → Ranks below (stands x) (stands y) P → Ranks (through stands below) x y P
-through_ranks below stands same x y P h Less q = h Less q
-through_ranks below stands same x y P h Equal q = same x y (h Equal q)
-through_ranks below stands same x y P h Greater q = h Greater q
+pub through_ranks : {K A : Type 0} (below : A → A → Bool) (stands : K → A) → ((x y : K) → stands x ≡ stands y → x ≡ y) → (x y : K) (r : Ordering) → Ranks below (stands x) (stands y) r → Ranks (through stands below) x y r
+through_ranks below stands same x y Less h = h
+through_ranks below stands same x y Equal h = same x y h
+through_ranks below stands same x y Greater h = h
 
 module _ {A B : Type 0} {f : A → A → Bool} (g : B → B → Bool) (o : Order f) where
   -- where the first parts are equal the second decide
   pub turn_second : (a b : A) (c d : B) → a ≡ b → in_turn f g (a, c) (b, d) ≡ g c d
   turn_second a b c d e = let i = o.irreflexive a in grind arith
 
-  pub in_turn_ranks : (x y : A × B) (P Q : Ordering → Type 0) → Ranks f x.0 y.0 P → Ranks g x.1 y.1 Q → Ranks (in_turn f g) x y (Lex P Q)
-  in_turn_ranks x y P Q h k r (inl l) = subst (λ s. MatchOrdering s (in_turn f g x y ≡ true) (x ≡ y) (in_turn f g y x ≡ true)) (sym l.1) (let t = h Less l.0 in grind arith)
-  in_turn_ranks x y P Q h k r (inr (inl l)) = subst (λ s. MatchOrdering s (in_turn f g x y ≡ true) (x ≡ y) (in_turn f g y x ≡ true)) (sym l.1) (let t = h Greater l.0 in grind arith)
-  in_turn_ranks x y P Q h k Less (inr (inr l)) = turn_second x.0 y.0 x.1 y.1 (h Equal l.0) ∙ k Less l.1
-  in_turn_ranks x y P Q h k Equal (inr (inr l)) = let e = h Equal l.0 in let d = k Equal l.1 in λ i. (e i, d i)
-  in_turn_ranks x y P Q h k Greater (inr (inr l)) = turn_second y.0 x.0 y.1 x.1 (sym (h Equal l.0)) ∙ k Greater l.1
+  pub in_turn_ranks : (x y : A × B) (r s : Ordering) → Ranks f x.0 y.0 r → Ranks g x.1 y.1 s → Ranks (in_turn f g) x y (ordering_then r s)
+  in_turn_ranks x y Less s h k = grind arith
+  in_turn_ranks x y Greater s h k = grind arith
+  in_turn_ranks x y Equal Less h k = turn_second x.0 y.0 x.1 y.1 h ∙ k
+  in_turn_ranks x y Equal Equal h k = λ i. (h i, k i)
+  in_turn_ranks x y Equal Greater h k = turn_second y.0 x.0 y.1 x.1 (sym h) ∙ k

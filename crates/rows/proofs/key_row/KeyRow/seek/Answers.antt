@@ -4,14 +4,14 @@ use Rattle.rows.proofs.key_row.KeyRow.seek.Goals as goal
 
 pub returns-in-Equal : goal.returns-in-Equal
 returns-in-Equal g c =
-    let o = g.row.K-Key.laws in
+    let o = g.K.Key.laws in
     let m = drop_more c.held-held.result.now c.loop-i.i c.index-held-i.result (search rules) in
     let e = c.in-Equal.ensures in
     grind (arith, length-take)
 
 pub returns-in-Greater : goal.returns-in-Greater
 returns-in-Greater g c =
-    let o = g.row.K-Key.laws in
+    let o = g.K.Key.laws in
     let m = drop_more c.held-held.result.now c.loop-i.i c.index-held-i.result (search rules) in
     let e = c.in-Greater.ensures in
     grind (arith, length-take)

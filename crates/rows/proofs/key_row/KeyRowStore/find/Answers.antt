@@ -1,4 +1,4 @@
-use Rattle.std.proofs.Common.{arith, length-take}
+use Rattle.std.proofs.Common.{arith}
 use Rattle.std.proofs.lemmas.List.{get_or-take}
 use Rattle.store.proofs.Places.{lookup-held, lookup-missing}
 use Rattle.rows.proofs.key_row.KeyRowStore.find.Goals as goal

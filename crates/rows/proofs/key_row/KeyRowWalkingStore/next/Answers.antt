@@ -4,7 +4,7 @@ use Rattle.rows.proofs.key_row.KeyRowWalkingStore.next.Goals as goal
 
 pub returns-in-Equal : goal.returns-in-Equal
 returns-in-Equal g c =
-    let o = g.row.K-Key.laws in
+    let o = g.K.Key.laws in
     let m = drop_more c.held-entry-items.result.now c.loop-entry.entry-index c.entry-item.result (search rules) in
     grind arith
 

@@ -10,7 +10,7 @@ use Rattle.rows.proofs.loose_row.LooseRowStore.take.Goals as goal
 
 pub returns-in-Some : goal.returns-in-Some
 returns-in-Some g c =
-    let below = g.row.K-Key.below in
+    let below = g.K.Key.below in
     let n = c.args.self.now.used in
     let cs = c.args.self.now.cells.now in
     let k = c.args.key.now in
@@ -25,16 +25,16 @@ returns-in-Some g c =
     let h = held_found below es k _ (f.3 x) in
     let fs = take (m - 1) (set cs i x) in
     let e : Distinct below (take n cs) → sorted below fs ≡ removing below es k =
-    λ u. taken g.row.K-Key.laws cs (m - 1) i k x (subst (Distinct below) (sym w) u) (omega arith) (omega arith) is (ap (λ l. (get_or l i x).key) w ∙ f.2 x) ∙ ap (λ l. removing below (sorted below l) k) w in
+    λ u. taken g.K.Key.laws cs (m - 1) i k x (subst (Distinct below) (sym w) u) (omega arith) (omega arith) is (ap (λ l. (get_or l i x).key) w ∙ f.2 x) ∙ ap (λ l. removing below (sorted below l) k) w in
     record {
       room = search rules;
-      keeps = λ u. distinct_removed g.row.K-Key.laws (take n cs) fs k u h (e u) (grind (arith, length-take, length-set));
+      keeps = λ u. distinct_removed g.K.Key.laws (take n cs) fs k u h (e u) (grind (arith, length-take, length-set));
       takes = λ u. took below (length cs) es _ k true h (e u);
     }
 
 pub returns-in-None : goal.returns-in-None
 returns-in-None g c =
-    let below = g.row.K-Key.below in
+    let below = g.K.Key.below in
     let cs = c.args.self.now.cells.now in
     let k = c.args.key.now in
     let es = sorted below (take c.args.self.now.used cs) in
