@@ -1,5 +1,4 @@
 use Rattle.std.proofs.Common.{rules}
-use Rattle.reader.specs.Readings.{checked, field_at}
 use Rattle.reader.specs.Tables.{block_at}
 use Rattle.reader.proofs.tables.block.Goals as goal
 

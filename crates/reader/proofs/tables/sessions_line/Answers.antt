@@ -1,5 +1,5 @@
 use Rattle.std.proofs.Common.{rules}
-use Rattle.reader.specs.Readings.{checked, field_at}
+use Rattle.reader.specs.Readings.{checked}
 use Rattle.reader.specs.Tables.{sessions_line_at}
 use Rattle.reader.proofs.tables.sessions_line.Goals as goal
 
