@@ -2,9 +2,9 @@ use Rattle.std.proofs.Common.{rules}
 use Rattle.reader.specs.Requests.{call_at}
 use Rattle.reader.proofs.requests.call.Goals as goal
 
-pub returns-in-err-field : goal.returns-in-err-field
+pub returns-in_err-field : goal.returns-in_err-field
 unfolding call_at
-returns-in-err-field c = search rules
+returns-in_err-field c = search rules
 
 pub returns-in-Ue : goal.returns-in-Ue
 unfolding call_at

@@ -10,26 +10,26 @@ use Rattle.reader.proofs.requests.slices.Goals as goal
 pub loop-slice-init : goal.loop-slice-init
 loop-slice-init c = ap (λ l. all_at (8 - length l) slice_item_at l (place c.args.lines.now)) c.new-slices.ensures
 
-pub returns-in-err-slice : goal.returns-in-err-slice
+pub returns-in_err-slice : goal.returns-in_err-slice
 unfolding slices_at
-returns-in-err-slice c =
+returns-in_err-slice c =
     let xs = held c.loop-slice.slices in
-    let r = err_from_is_err_and c.from-residual.result c.from-residual.ensures.1 in
+    let r = err_from_is_err_and c.from_residual.result c.from_residual.ensures.1 in
     rw (r.1, r.2)
-    (refused (8 - length xs) slice_item_at c.as-slice.result.now xs c.in-err-slice.field-0.0 (place c.loop-slice.lines) (place c.slice-item.new.lines) _ c.as-slice.ensures.value c.in-err-slice.ensures.reads c.loop-slice.invariant)
+    (refused (8 - length xs) slice_item_at c.as_slice.result.now xs c.in_err-slice.field-0.0 (place c.loop-slice.lines) (place c.slice_item.new.lines) _ c.as_slice.ensures.value c.in_err-slice.ensures.reads c.loop-slice.invariant)
 
 pub returns-then-not-more : goal.returns-then-not-more
 unfolding slices_at
 returns-then-not-more c =
-    let t = turned 8 slice_item_at c.as-slice.result.now (held c.loop-slice.slices) (held c.push.new.self) c.in-ok-slice.slice (place c.loop-slice.lines) (place c.slice-item.new.lines) c.push.result c.as-slice.ensures.value c.in-ok-slice.ensures.reads c.in-ok-slice.ensures.few c.push.ensures in
+    let t = turned 8 slice_item_at c.as_slice.result.now (held c.loop-slice.slices) (held c.push.new.self) c.in_ok-slice.slice (place c.loop-slice.lines) (place c.slice_item.new.lines) c.push.result c.as_slice.ensures.value c.in_ok-slice.ensures.reads c.in_ok-slice.ensures.few c.push.ensures in
     stopped t (sym c.if-not-more.ensures) c.loop-slice.invariant
 
 pub loop-slice-preserved : goal.loop-slice-preserved
 loop-slice-preserved c =
-    let t = turned 8 slice_item_at c.as-slice.result.now (held c.loop-slice.slices) (held c.push.new.self) c.in-ok-slice.slice (place c.loop-slice.lines) (place c.slice-item.new.lines) c.push.result c.as-slice.ensures.value c.in-ok-slice.ensures.reads c.in-ok-slice.ensures.few c.push.ensures in
+    let t = turned 8 slice_item_at c.as_slice.result.now (held c.loop-slice.slices) (held c.push.new.self) c.in_ok-slice.slice (place c.loop-slice.lines) (place c.slice_item.new.lines) c.push.result c.as_slice.ensures.value c.in_ok-slice.ensures.reads c.in_ok-slice.ensures.few c.push.ensures in
     again t (sym c.if-not-more.ensures) c.loop-slice.invariant
 
 pub loop-slice-smaller : goal.loop-slice-smaller
 loop-slice-smaller c =
-    let t = turned 8 slice_item_at c.as-slice.result.now (held c.loop-slice.slices) (held c.push.new.self) c.in-ok-slice.slice (place c.loop-slice.lines) (place c.slice-item.new.lines) c.push.result c.as-slice.ensures.value c.in-ok-slice.ensures.reads c.in-ok-slice.ensures.few c.push.ensures in
+    let t = turned 8 slice_item_at c.as_slice.result.now (held c.loop-slice.slices) (held c.push.new.self) c.in_ok-slice.slice (place c.loop-slice.lines) (place c.slice_item.new.lines) c.push.result c.as_slice.ensures.value c.in_ok-slice.ensures.reads c.in_ok-slice.ensures.few c.push.ensures in
     falls t

@@ -1,27 +1,26 @@
 use Rattle.std.proofs.Common.{rules}
-use Rattle.reader.specs.Readings.{checked, field_at}
 use Rattle.reader.specs.Tables.{block_at}
 use Rattle.reader.proofs.tables.block.Goals as goal
 
-pub returns-in-err-slice : goal.returns-in-err-slice
+pub returns-in_err-slice : goal.returns-in_err-slice
 unfolding block_at
-returns-in-err-slice c = search rules
+returns-in_err-slice c = search rules
 
-pub returns-in-err-ue-max : goal.returns-in-err-ue-max
+pub returns-in_err-ue_max : goal.returns-in_err-ue_max
 unfolding block_at
-returns-in-err-ue-max c = search rules
+returns-in_err-ue_max c = search rules
 
-pub returns-in-err-ue-entries : goal.returns-in-err-ue-entries
+pub returns-in_err-ue_entries : goal.returns-in_err-ue_entries
 unfolding block_at
-returns-in-err-ue-entries c = search rules
+returns-in_err-ue_entries c = search rules
 
-pub returns-in-err-pdu-max : goal.returns-in-err-pdu-max
+pub returns-in_err-pdu_max : goal.returns-in_err-pdu_max
 unfolding block_at
-returns-in-err-pdu-max c = search rules
+returns-in_err-pdu_max c = search rules
 
-pub returns-in-err-counted : goal.returns-in-err-counted
+pub returns-in_err-counted : goal.returns-in_err-counted
 unfolding block_at
-returns-in-err-counted c = search rules
+returns-in_err-counted c = search rules
 
 pub returns : goal.returns
 unfolding block_at

@@ -10,26 +10,26 @@ use Rattle.reader.proofs.tables.blocks.Goals as goal
 pub loop-next-init : goal.loop-next-init
 loop-next-init c = ap (λ l. all_at (16 - length l) (block_at c.args.capacities) l (place c.args.lines.now)) c.new-blocks.ensures
 
-pub returns-in-err-next : goal.returns-in-err-next
+pub returns-in_err-next : goal.returns-in_err-next
 unfolding blocks_at
-returns-in-err-next c =
+returns-in_err-next c =
     let xs = held c.loop-next.blocks in
-    let r = err_from_is_err_and c.from-residual.result c.from-residual.ensures.1 in
+    let r = err_from_is_err_and c.from_residual.result c.from_residual.ensures.1 in
     rw (r.1, r.2)
-    (refused (16 - length xs) (block_at c.args.capacities) c.as-slice.result.now xs c.in-err-next.field-0.0 (place c.loop-next.lines) (place c.block.new.lines) _ c.as-slice.ensures.value c.in-err-next.ensures.reads c.loop-next.invariant)
+    (refused (16 - length xs) (block_at c.args.capacities) c.as_slice.result.now xs c.in_err-next.field-0.0 (place c.loop-next.lines) (place c.block.new.lines) _ c.as_slice.ensures.value c.in_err-next.ensures.reads c.loop-next.invariant)
 
 pub returns-then-not-more : goal.returns-then-not-more
 unfolding blocks_at
 returns-then-not-more c =
-    let t = turned 16 (block_at c.args.capacities) c.as-slice.result.now (held c.loop-next.blocks) (held c.push.new.self) c.in-ok-next.next (place c.loop-next.lines) (place c.block.new.lines) c.push.result c.as-slice.ensures.value c.in-ok-next.ensures.reads c.in-ok-next.ensures.few c.push.ensures in
+    let t = turned 16 (block_at c.args.capacities) c.as_slice.result.now (held c.loop-next.blocks) (held c.push.new.self) c.in_ok-next.next (place c.loop-next.lines) (place c.block.new.lines) c.push.result c.as_slice.ensures.value c.in_ok-next.ensures.reads c.in_ok-next.ensures.few c.push.ensures in
     stopped t (sym c.if-not-more.ensures) c.loop-next.invariant
 
 pub loop-next-preserved : goal.loop-next-preserved
 loop-next-preserved c =
-    let t = turned 16 (block_at c.args.capacities) c.as-slice.result.now (held c.loop-next.blocks) (held c.push.new.self) c.in-ok-next.next (place c.loop-next.lines) (place c.block.new.lines) c.push.result c.as-slice.ensures.value c.in-ok-next.ensures.reads c.in-ok-next.ensures.few c.push.ensures in
+    let t = turned 16 (block_at c.args.capacities) c.as_slice.result.now (held c.loop-next.blocks) (held c.push.new.self) c.in_ok-next.next (place c.loop-next.lines) (place c.block.new.lines) c.push.result c.as_slice.ensures.value c.in_ok-next.ensures.reads c.in_ok-next.ensures.few c.push.ensures in
     again t (sym c.if-not-more.ensures) c.loop-next.invariant
 
 pub loop-next-smaller : goal.loop-next-smaller
 loop-next-smaller c =
-    let t = turned 16 (block_at c.args.capacities) c.as-slice.result.now (held c.loop-next.blocks) (held c.push.new.self) c.in-ok-next.next (place c.loop-next.lines) (place c.block.new.lines) c.push.result c.as-slice.ensures.value c.in-ok-next.ensures.reads c.in-ok-next.ensures.few c.push.ensures in
+    let t = turned 16 (block_at c.args.capacities) c.as_slice.result.now (held c.loop-next.blocks) (held c.push.new.self) c.in_ok-next.next (place c.loop-next.lines) (place c.block.new.lines) c.push.result c.as_slice.ensures.value c.in_ok-next.ensures.reads c.in_ok-next.ensures.few c.push.ensures in
     falls t

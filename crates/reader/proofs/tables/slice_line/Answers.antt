@@ -3,9 +3,9 @@ use Rattle.reader.specs.Readings.{checked}
 use Rattle.reader.specs.Tables.{slice_line_at}
 use Rattle.reader.proofs.tables.slice_line.Goals as goal
 
-pub returns-in-err-slice : goal.returns-in-err-slice
+pub returns-in_err-slice : goal.returns-in_err-slice
 unfolding slice_line_at checked
-returns-in-err-slice c = search rules
+returns-in_err-slice c = search rules
 
 pub returns-then-blocks-ge16 : goal.returns-then-blocks-ge16
 unfolding slice_line_at checked

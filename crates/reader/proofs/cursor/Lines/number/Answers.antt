@@ -2,9 +2,9 @@ use Rattle.std.proofs.Common.{rules}
 use Rattle.reader.specs.Readings.{field_at}
 use Rattle.reader.proofs.cursor.Lines.number.Goals as goal
 
-pub returns-in-err-value : goal.returns-in-err-value
+pub returns-in_err-value : goal.returns-in_err-value
 unfolding field_at
-returns-in-err-value c = search rules
+returns-in_err-value c = search rules
 
 pub returns-in-Some : goal.returns-in-Some
 unfolding field_at
