@@ -1,11 +1,11 @@
 -- The long form of a slice reads as the same slice.
-use Rattle.std.proofs.Common.{◌≡◌, ℕ, ◌+◌, ◌*◌, ◌/◌, ◌%◌, ◌<◌, List, Some, Option, sym, ap, ◌∙◌, arith}
+use Rattle.std.proofs.Common.{◌≡◌, ℕ, ◌+◌, ◌*◌, ◌/◌, ◌%◌, ◌<◌, Some, Option, ap, ◌∙◌, arith}
 use Rattle.std.proofs.lemmas.Bool.Decides.{nat_tests}
 use Rattle.identity.specs.Chains.{given}
 use Rattle.identity.specs.Slices.{nibble_of, octet_of, snssai, slice_of}
 use Rattle.identity.specs.declared.snssai.Snssai.{Snssai}
 use Rattle.identity.proofs.Made.{slice_made}
-use Rattle.writer.specs.Hexes.{hex_of, sd_digit, long_text}
+use Rattle.writer.specs.Hexes.{hex_of, long_text}
 
 nibble_back : (n : ℕ) → n < 16 → nibble_of (hex_of n) ≡ Some n
 nibble_back n h = grind (arith, nat_tests)

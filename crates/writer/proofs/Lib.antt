@@ -1,4 +1,3 @@
 pub mod Backs
-pub mod Fits
 pub mod Fronts
 pub mod Within

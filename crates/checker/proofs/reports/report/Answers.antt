@@ -9,9 +9,9 @@ returns-then-first c =
     let text = c.args.piece.now in
     let out = c.args.out.now in
     record {
-      writes = c.report-settings.ensures.writes ∙ ap (λ f. put_at 0 (piece_report f text) out) (sym c.if-first.true);
-      within = within 0 (settings_report text) out c.report-settings.new.out c.report-settings.result c.report-settings.ensures.writes;
-      fits = c.report-settings.ensures.fits;
+      writes = c.report_settings.ensures.writes ∙ ap (λ f. put_at 0 (piece_report f text) out) (sym c.if-first.true);
+      within = within 0 (settings_report text) out c.report_settings.new.out c.report_settings.result c.report_settings.ensures.writes;
+      fits = c.report_settings.ensures.fits;
     }
 
 pub returns-else-first : goal.returns-else-first
@@ -19,7 +19,7 @@ returns-else-first c =
     let text = c.args.piece.now in
     let out = c.args.out.now in
     record {
-      writes = c.report-request.ensures.writes ∙ ap (λ f. put_at 0 (piece_report f text) out) (sym c.if-first.false);
-      within = within 0 (request_report text) out c.report-request.new.out c.report-request.result c.report-request.ensures.writes;
-      fits = c.report-request.ensures.fits;
+      writes = c.report_request.ensures.writes ∙ ap (λ f. put_at 0 (piece_report f text) out) (sym c.if-first.false);
+      within = within 0 (request_report text) out c.report_request.new.out c.report_request.result c.report_request.ensures.writes;
+      fits = c.report_request.ensures.fits;
     }

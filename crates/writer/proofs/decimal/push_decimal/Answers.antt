@@ -1,4 +1,4 @@
-use Rattle.std.proofs.Common.{◌≡◌, ◌-◌, ◌^◌, ◌<◌, ◌≤◌, ◌++◌, length, drop, decimal, sym, refl, ap, ◌∙◌, arith, length-set}
+use Rattle.std.proofs.Common.{◌≡◌, ◌++◌, drop, decimal, sym, refl, ap, ◌∙◌, arith, length-set}
 use Rattle.std.proofs.lemmas.List.{take_rest}
 use Rattle.few.specs.Fews.{held, extended}
 use Rattle.writer.proofs.Fronts.{front_none, last_apart, turn, room}
@@ -7,8 +7,8 @@ use Rattle.writer.proofs.decimal.push_decimal.Goals as goal
 pub loop-rest-init : goal.loop-rest-init
 loop-rest-init g c = (refl, omega arith, omega arith, sym (last_apart c.args.n (omega arith)))
 
-pub overflow-sub-start : goal.overflow-sub-start
-overflow-sub-start g c =
+pub overflow_sub-start : goal.overflow_sub-start
+overflow_sub-start g c =
     let i = c.loop-rest.invariant in
     room c.loop-rest.rest c.loop-rest.start c.args.n c.loop-rest.digits c.loop-rest-test.true (omega (arith, i.2)) (omega arith) i.0 i.3
 

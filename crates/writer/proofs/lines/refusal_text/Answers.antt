@@ -20,8 +20,8 @@ returns c =
     let three = two ++ (10 ∷ codes "line=") in
     let four = three ++ at in
     let key = grown 64 one (held c.new-text.result) (held c.extend.new.self) [] c.extend.result c.new-text.ensures (omega arith) c.extend.ensures in
-    let reason = grown 64 why (held c.extend.new.self) (held c.push-decimal.new.text) one c.push-decimal.result key (omega arith) c.push-decimal.ensures in
-    let next = grown 64 (10 ∷ codes "line=") (held c.push-decimal.new.text) (held c.extend-2.new.self) two c.extend-2.result reason (simp length-append (omega arith)) c.extend-2.ensures in
-    let place = grown 64 at (held c.extend-2.new.self) (held c.push-decimal-2.new.text) three c.push-decimal-2.result next (simp length-append (omega arith)) c.push-decimal-2.ensures in
-    let all = grown 64 (10 ∷ []) (held c.push-decimal-2.new.text) (held c.extend-3.new.self) four c.extend-3.result place (simp length-append (omega arith)) c.extend-3.ensures in
+    let reason = grown 64 why (held c.extend.new.self) (held c.push_decimal.new.text) one c.push_decimal.result key (omega arith) c.push_decimal.ensures in
+    let next = grown 64 (10 ∷ codes "line=") (held c.push_decimal.new.text) (held c.extend-2.new.self) two c.extend-2.result reason (simp length-append (omega arith)) c.extend-2.ensures in
+    let place = grown 64 at (held c.extend-2.new.self) (held c.push_decimal-2.new.text) three c.push_decimal-2.result next (simp length-append (omega arith)) c.push_decimal-2.ensures in
+    let all = grown 64 (10 ∷ []) (held c.push_decimal-2.new.text) (held c.extend-3.new.self) four c.extend-3.result place (simp length-append (omega arith)) c.extend-3.ensures in
     all ∙ regroup one why (codes "line=") at ∙ ap (λ n. line (one ++ decimal n) ++ line (codes "line=" ++ at)) c.number.ensures

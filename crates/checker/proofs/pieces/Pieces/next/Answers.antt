@@ -3,9 +3,9 @@ use Rattle.std.proofs.lemmas.Bool.Decides.{nat_tests}
 use Rattle.checker.proofs.Scans.{next_piece, no_piece}
 use Rattle.checker.proofs.pieces.Pieces.next.Goals as goal
 
-pub returns-then-is-empty : goal.returns-then-is-empty
-returns-then-is-empty c = no_piece c.args.self.now.rest.now (grind (arith, nat_tests))
+pub returns-then-is_empty : goal.returns-then-is_empty
+returns-then-is_empty c = no_piece c.args.self.now.rest.now (grind (arith, nat_tests))
 
 pub returns : goal.returns
 returns c =
-    next_piece c.args.self.now.rest.now c.piece-end-end.result _ c.min-after.result c.piece-end-end.ensures.ends (omega arith) c.min-after.ensures c.piece-end-end.ensures.within (grind (arith, nat_tests))
+    next_piece c.args.self.now.rest.now c.piece_end-end.result _ c.min-after.result c.piece_end-end.ensures.ends (omega arith) c.min-after.ensures c.piece_end-end.ensures.within (grind (arith, nat_tests))
