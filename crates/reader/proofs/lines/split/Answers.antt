@@ -6,6 +6,6 @@ pub returns : goal.returns
 returns c =
     let n = c.line_end-end.result in
     record {
-      splits = taken_off c.args.key.now c.args.text.now n _ c.in_ok-value.value.now c.line_end-end.ensures (omega arith) c.if-end-text.false c.in_ok-value.ensures;
+      splits = taken_off c.args.key.now c.args.text.now n _ c.in_ok-value.value.now c.line_end-end.ensures (omega arith) (omega arith) c.in_ok-value.ensures;
       less = simp (length-take, length-drop) (omega arith);
     }
