@@ -1,5 +1,5 @@
 -- Cutting by the scan for the first empty line.
-use Rattle.std.proofs.Common.{◌≡◌, ℕ, suc, ◌+◌, ◌-◌, ◌<◌, ◌≤◌, min, Bool, true, false, ◌&&◌, eqb, List, [], ◌∷◌, ◌++◌, length, take, drop, Some, None, sym, refl, ap, ◌∙◌, ⊎_elim, append_assoc, append-nil, arith}
+use Rattle.std.proofs.Common.{◌≡◌, ℕ, suc, ◌+◌, ◌-◌, ◌<◌, ◌≤◌, min, Bool, true, false, ◌&&◌, eqb, List, [], ◌∷◌, ◌++◌, length, take, drop, Some, sym, refl, ap, ◌∙◌, ⊎_elim, append_assoc, append-nil, arith}
 use Rattle.std.proofs.lemmas.List.{take_all, take_rest, drop_all}
 use Rattle.std.proofs.lemmas.Bool.{cases_Bool, cases_lt, cond-true, cond-false, ne_eqb}
 use Rattle.checker.specs.Pieces.{cut, pieces_of, up_to, first_of}
@@ -56,7 +56,3 @@ pub next_piece : (bs : List ℕ) (n k a : ℕ) → n ≡ up_to true bs → k ≡
 next_piece bs n k a e same after most some =
     ap (λ l. (Some (take k bs), pieces_of l)) (take_rest bs a) ∙ ap (λ i. (Some (take i bs), pieces_of (drop a bs))) same
     ∙ ap (λ i. (Some (take n bs), pieces_of (drop i bs))) after ∙ first_piece bs n e most some
-
-pub no_piece : (bs : List ℕ) → length bs ≡ 0 → (None, pieces_of bs) ≡ first_of (pieces_of bs)
-no_piece [] z = refl
-no_piece (b ∷ bs) z = absurd (omega arith)

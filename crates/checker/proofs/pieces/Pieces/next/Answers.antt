@@ -1,10 +1,7 @@
 use Rattle.std.proofs.Common.{arith}
 use Rattle.std.proofs.lemmas.Bool.Decides.{nat_tests}
-use Rattle.checker.proofs.Scans.{next_piece, no_piece}
+use Rattle.checker.proofs.Scans.{next_piece}
 use Rattle.checker.proofs.pieces.Pieces.next.Goals as goal
-
-pub returns-then-is_empty : goal.returns-then-is_empty
-returns-then-is_empty c = no_piece c.args.self.now.rest.now (grind (arith, nat_tests))
 
 pub returns : goal.returns
 returns c =
