@@ -1,10 +1,10 @@
 -- The first put into an empty store.
-use Rattle.std.proofs.Common.{◌≡◌, ℕ, ◌<◌, Bool, true, false, List, [], length, Some, Ok, Err, Result, sym, ap, ◌∙◌, ⊎_elim, arith}
+use Rattle.std.proofs.Common.{◌≡◌, ℕ, ◌<◌, Bool, List, [], length, Some, Ok, Err, Result, ap, ◌∙◌, arith}
 use Rattle.std.proofs.lemmas.Bool.{cond-true, or_right, lt-ltb}
 use Rattle.refusal.specs.declared.Refusal.{Refusal}
 use Rattle.store.specs.declared.entry.Entry.{Entry}
 use Rattle.store.specs.Orders.{Order}
-use Rattle.store.specs.Maps.{lookup, adding, holds, putting}
+use Rattle.store.specs.Maps.{lookup, adding, putting}
 use Rattle.store.proofs.Laws.{lookup-adding_same}
 
 module _ {K V : Type 0} {below : K → K → Bool} (o : Order below) (c : ℕ) (es fs : List (Entry K V)) (k : K) (v : V) where

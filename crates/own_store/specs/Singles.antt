@@ -1,5 +1,5 @@
 -- What a single store stands for.
-use Rattle.std.specs.Prelude.{ℕ, ◌≤◌, List, [], ◌∷◌, length, Some, None, Option}
+use Rattle.std.specs.Prelude.{◌≤◌, List, [], ◌∷◌, length, Some, None, Option}
 use Rattle.std.proofs.Common.{lit≤}
 use Rattle.store.specs.declared.entry.Entry.{Entry}
 use Rattle.own_store.specs.declared.single.Single.{Single}

@@ -1,4 +1,4 @@
-use Rattle.std.proofs.Common.{◌≡◌, ℕ, ◌<◌, sym, ap, subst}
+use Rattle.std.proofs.Common.{◌<◌, sym, ap, subst}
 use Rattle.own_store.specs.Numbers.{lower}
 use Rattle.rows.specs.LooseRows.{sorted}
 use Rattle.drive.proofs.found.found_in_loose_row.Goals as goal
