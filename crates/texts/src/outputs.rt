@@ -95,11 +95,11 @@ fn reports(rt: HostRuntime) {
     let mut out = [b'.'; 33];
     let settings = b"slice=01\nue-max=1\nue-entries=1024\npdu-max=1024\ncount=both\n";
     assert_eq!(rt; report(settings, true, &mut out), Some(12));
-    assert!(rt; &out[0..13] == b"settings=ok\n.");
+    assert!(rt; &out[0..13] == b"settings=ok\n.".as_slice());
     let request =
         b"op=pdu\nflag=increase\nue=imsi-00101001\nsession=5\naccess=3gpp\nslice=01\nslice=0A-00000B\n";
     assert_eq!(rt; report(request, false, &mut out), Some(32));
-    assert!(rt; &out[0..32] == b"slice=01-FFFFFF\nslice=0A-00000B\n");
+    assert!(rt; &out[0..32] == b"slice=01-FFFFFF\nslice=0A-00000B\n".as_slice());
     assert_eq!(rt; report(request, true, &mut out), Some(17));
-    assert!(rt; &out[0..17] == b"refusal=1\nline=1\n");
+    assert!(rt; &out[0..17] == b"refusal=1\nline=1\n".as_slice());
 }
