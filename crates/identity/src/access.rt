@@ -1,8 +1,8 @@
 // The access type over which a UE registers or a session runs.
 ghost use Rattle.identity.specs.Words.{access_of};
 
-use crate::bytes::same;
 use crate::value::Value;
+use crate::word::word;
 
 #[derive(Clone, Copy, PartialEq, Eq, Debug)]
 pub enum Access {
@@ -14,12 +14,12 @@ impl Value for Access {
     ghost written = { access_of };
 
     fn read(bytes: &[u8]) -> Option<Access> {
-        if same(bytes, b"3gpp") {
-            Some(Access::ThreeGpp)
-        } else if same(bytes, b"non-3gpp") {
-            Some(Access::NonThreeGpp)
-        } else {
-            None
-        }
+        word(
+            bytes,
+            &[
+                (b"3gpp", Access::ThreeGpp),
+                (b"non-3gpp", Access::NonThreeGpp),
+            ],
+        )
     }
 }

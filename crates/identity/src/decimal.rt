@@ -2,7 +2,7 @@
 ghost use Rattle.std.specs.Prelude.{◌≡◌, ◌≤◌, IfSome};
 ghost use Rattle.identity.specs.Decimals.{decimal_of, digits_of, digit_of};
 
-use crate::class::{DIGIT, class};
+use crate::class::Class;
 use crate::value::Value;
 
 // The number that bytes write without a leading zero, if it is at most `most`.
@@ -20,10 +20,9 @@ pub fn decimal(bytes: &[u8], most: u64) -> Option<u64>
 fn digit(b: u8) -> Option<u8>
     ensures { result ≡ digit_of b }
 {
-    if class(b) == DIGIT {
-        Some(b - b'0')
-    } else {
-        None
+    match Class::from(b) {
+        Class::Digit => Some(b - b'0'),
+        _ => None,
     }
 }
 
@@ -34,14 +33,11 @@ pub(crate) fn digits(bytes: &[u8], most: u64) -> Option<u64>
 {
     let mut value: u64 = 0;
     for b in bytes {
-        let Some(digit) = digit(*b) else {
-            return None;
-        };
-        let next = value as u128 * 10 + digit as u128;
-        if next > most as u128 {
+        let digit = u64::from(digit(*b)?);
+        value = value.checked_mul(10)?.checked_add(digit)?;
+        if value > most {
             return None;
         }
-        value = next as u64;
     }
     Some(value)
 }

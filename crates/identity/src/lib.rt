@@ -2,7 +2,6 @@
 #![tactic(auto)]
 
 pub mod access;
-pub mod bytes;
 mod class;
 pub mod decimal;
 pub mod number;
@@ -12,3 +11,4 @@ pub mod snssai;
 pub mod subscriber;
 pub mod supi;
 pub mod value;
+pub mod word;

@@ -2,7 +2,7 @@
 ghost use Rattle.std.specs.Prelude.{◌≡◌};
 ghost use Rattle.identity.specs.Slices.{nibble_of, octet_of, snssai, slice_of};
 
-use crate::class::{DIGIT, LETTER, class};
+use crate::class::Class;
 use crate::snssai::Snssai;
 use crate::value::Value;
 
@@ -11,10 +11,10 @@ const NO_SD: u32 = 0xFF_FFFF;
 fn nibble(b: u8) -> Option<u8>
     ensures { result ≡ nibble_of b }
 {
-    match class(b) {
-        DIGIT => Some(b - b'0'),
-        LETTER => Some(b - b'A' + 10),
-        _ => None,
+    match Class::from(b) {
+        Class::Digit => Some(b - b'0'),
+        Class::Letter => Some(b - b'A' + 10),
+        Class::Other => None,
     }
 }
 
@@ -48,7 +48,7 @@ impl Value for Snssai {
                 let high = octet(*c, *d)?;
                 let mid = octet(*e, *f)?;
                 let low = octet(*g, *h)?;
-                Snssai::new(sst, high as u32 * 65536 + mid as u32 * 256 + low as u32)
+                Snssai::new(sst, u32::from_be_bytes([0, high, mid, low]))
             }
             _ => None,
         }

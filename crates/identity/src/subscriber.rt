@@ -2,7 +2,6 @@
 ghost use Rattle.std.specs.Prelude.{◌≡◌};
 ghost use Rattle.identity.specs.Subscribers.{supi_of, imsi_of};
 
-use crate::bytes::strip;
 use crate::decimal::digits;
 use crate::supi::Supi;
 use crate::value::Value;
@@ -12,14 +11,12 @@ impl Supi {
     pub fn new(imsi: &[u8]) -> Option<Supi>
         ensures { result ≡ imsi_of imsi.now }
     {
-        let count = imsi.len();
-        if count < 5 || count > 15 {
+        if !(5..=15).contains(&imsi.len()) {
             return None;
         }
-        let value = digits(imsi, u64::MAX)?;
         Some(Supi {
-            digits: count as u8,
-            value,
+            digits: imsi.len() as u8,
+            value: digits(imsi, u64::MAX)?,
         })
     }
 }
@@ -28,6 +25,6 @@ impl Value for Supi {
     ghost written = { supi_of };
 
     fn read(bytes: &[u8]) -> Option<Supi> {
-        Supi::new(strip(bytes, b"imsi-")?)
+        Supi::new(bytes.strip_prefix(b"imsi-")?)
     }
 }

@@ -1,17 +1,21 @@
-use Rattle.std.proofs.Common.{sym, ◌∙◌, rules}
-use Rattle.identity.proofs.Digits.{past, step, stop, done}
+use Rattle.std.proofs.Common.{sym, ◌∙◌, arith}
+use Rattle.identity.proofs.Digits.{past}
 use Rattle.identity.proofs.decimal.digits.Goals as goal
 
-pub returns-in_default : goal.returns-in_default
-returns-in_default c = record { reads = search (rules, stop); within = tt }
+pub returns-in_err-checked_mul-clause-reads : goal.returns-in_err-checked_mul-clause-reads
+returns-in_err-checked_mul-clause-reads c =
+    let l = c.loop-b in
+    let e = past l.value c.args.most c.args.bytes.now l.b-index c.in_ok-digit.field-0 c.loop-b-test.true (sym c.in_ok-digit.ensures) (omega (arith, c.in_err-checked_mul.ensures, c.ranges.most.fits)) in
+    c.from_residual-in_err-checked_mul.ensures ∙ sym e ∙ l.invariant.1
 
-pub returns-then-next-most : goal.returns-then-next-most
-returns-then-next-most c =
-    let e = past c.loop-b.value c.args.most c.args.bytes.now c.loop-b.b-index c.in-Some.digit c.loop-b-test.true (sym c.digit.ensures ∙ c.in-Some.is) c.if-next-most.true in
-    record { reads = cc; within = tt }
+pub returns-in_err-value-clause-reads : goal.returns-in_err-value-clause-reads
+returns-in_err-value-clause-reads c =
+    let l = c.loop-b in
+    let e = past l.value c.args.most c.args.bytes.now l.b-index c.in_ok-digit.field-0 c.loop-b-test.true (sym c.in_ok-digit.ensures) (omega (arith, c.in_ok-checked_mul.ensures, c.from-digit.ensures, c.in_err-value.ensures, c.ranges.most.fits)) in
+    c.from_residual-in_err-value.ensures ∙ sym e ∙ l.invariant.1
 
-pub loop-b-preserved : goal.loop-b-preserved
-loop-b-preserved c = search (rules, step)
-
-pub returns : goal.returns
-returns c = record { reads = search (rules, done); within = search rules }
+pub returns-then-value-most-clause-reads : goal.returns-then-value-most-clause-reads
+returns-then-value-most-clause-reads c =
+    let l = c.loop-b in
+    let e = past l.value c.args.most c.args.bytes.now l.b-index c.in_ok-digit.field-0 c.loop-b-test.true (sym c.in_ok-digit.ensures) (omega (arith, c.in_ok-checked_mul.ensures, c.from-digit.ensures, c.in_ok-value.ensures)) in
+    sym e ∙ l.invariant.1

@@ -5,4 +5,4 @@ use Rattle.identity.proofs.MadeNumbers.{nf_made}
 use Rattle.identity.proofs.numbers.NfNumberValue.read.Goals as goal
 
 pub returns : goal.returns
-returns c = sym (nf_made _) ∙ ap (λ n. given n nf) c.in_ok-n.ensures.reads
+returns c = sym (nf_made _) ∙ ap (λ n. given n nf) c.in_ok-number.ensures

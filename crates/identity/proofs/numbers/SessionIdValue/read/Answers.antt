@@ -5,4 +5,4 @@ use Rattle.identity.proofs.MadeNumbers.{session_made}
 use Rattle.identity.proofs.numbers.SessionIdValue.read.Goals as goal
 
 pub returns : goal.returns
-returns c = sym (session_made _) ∙ ap (λ n. given n session) c.in_ok-n.ensures.reads
+returns c = sym (session_made _) ∙ ap (λ n. given n session) c.in_ok-number.ensures
