@@ -17,5 +17,5 @@ table = replicate 48 Other ++ replicate 10 Digit ++ replicate 7 Other ++ replica
 pub returns : goal.returns
 unfolding table
 returns c =
-    let h : c.from.result < 256 = search rules in
-    rule table c.from.result tt h ∙ ap class_of c.from.ensures
+    let h : c.args.b < 256 = search rules in
+    ap (λ k. class_number (get_or table k Other)) c.from.ensures ∙ rule table c.args.b tt h
