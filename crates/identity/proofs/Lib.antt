@@ -2,4 +2,3 @@ pub mod Table
 pub mod Digits
 pub mod Made
 pub mod Widths
-pub mod MadeNumbers

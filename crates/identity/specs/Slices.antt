@@ -1,17 +1,13 @@
 -- A slice's identity, and how it is written.
-use Rattle.std.specs.Prelude.{ℕ, ◌+◌, ◌-◌, ◌*◌, ◌<◌, cond, ◌&&◌, List, length, Some, None, Option, ◌==◌, slice_index}
+use Rattle.std.specs.Prelude.{ℕ, ◌+◌, ◌-◌, ◌*◌, cond, ◌&&◌, List, length, Some, None, Option, ◌==◌, slice_index}
 use Rattle.std.proofs.Math.Decide.{dec_lt}
-use Rattle.identity.specs.Chains.{given}
+use Rattle.identity.specs.Chains.{given, provided}
 use Rattle.identity.specs.Classes.{class_of}
 use Rattle.identity.specs.declared.snssai.Snssai.{Snssai}
 
 -- the slice of a type and a differentiator, where that has 24 bits
-abbrev pub snssai_where : (type mark : ℕ) → Dec (mark < 16777216) → Option Snssai
-snssai_where type mark (yes h) = Some (record { sst = type; sd = mark; bits = h })
-snssai_where type mark (no h) = None
-
 unfoldable pub snssai : ℕ → ℕ → Option Snssai
-snssai type mark = snssai_where type mark (dec_lt mark 16777216)
+snssai type mark = provided (dec_lt mark 16777216) (λ h. Some (record { sst = type; sd = mark; bits = h }))
 
 -- an upper-case hexadecimal digit
 abbrev pub nibble_of : ℕ → Option ℕ

@@ -1,20 +1,16 @@
 -- A UE's identity, and how it is written.
-use Rattle.std.specs.Prelude.{ℕ, ◌^◌, ◌<◌, ◌≤◌, cond, ◌&&◌, List, length, Some, None, codes, Option, nat_le}
+use Rattle.std.specs.Prelude.{ℕ, ◌^◌, cond, ◌&&◌, List, length, Some, None, codes, Option, nat_le}
 use Rattle.std.proofs.Math.Decide.{dec_le, dec_lt}
-use Rattle.identity.specs.Chains.{given}
+use Rattle.identity.specs.Chains.{given, provided}
 use Rattle.identity.specs.Decimals.{digits?, value}
 use Rattle.identity.specs.Prefixes.{after}
 use Rattle.identity.specs.declared.supi.Supi.{Supi}
 
 -- the UE whose IMSI has so many digits and this value, where they are 5 to 15 and can write it
-abbrev pub supi_where : (count number : ℕ) → Dec (5 ≤ count) → Dec (count ≤ 15) → Dec (number < 10 ^ count) → Option Supi
-supi_where count number (yes l) (yes m) (yes f) = Some (record { digits = count; value = number; least = l; most = m; fits = f })
-supi_where count number (yes l) (yes m) (no f) = None
-supi_where count number (yes l) (no m) f = None
-supi_where count number (no l) m f = None
-
 unfoldable pub supi : ℕ → ℕ → Option Supi
-supi count number = supi_where count number (dec_le 5 count) (dec_le count 15) (dec_lt number (10 ^ count))
+supi count number =
+    provided (dec_le 5 count) (λ l. provided (dec_le count 15) (λ m. provided (dec_lt number (10 ^ count)) (λ f.
+    Some (record { digits = count; value = number; least = l; most = m; fits = f }))))
 
 -- the UE of an IMSI: 5 to 15 digits
 abbrev pub imsi_of : List ℕ → Option Supi

@@ -1,7 +1,7 @@
 use Rattle.std.proofs.Common.{sym, ap, ◌∙◌}
 use Rattle.identity.specs.Chains.{given}
 use Rattle.identity.specs.Numbers.{nf}
-use Rattle.identity.proofs.MadeNumbers.{nf_made}
+use Rattle.identity.proofs.Made.{nf_made}
 use Rattle.identity.proofs.numbers.NfNumberValue.read.Goals as goal
 
 pub returns : goal.returns

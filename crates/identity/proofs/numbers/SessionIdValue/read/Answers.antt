@@ -1,7 +1,7 @@
 use Rattle.std.proofs.Common.{sym, ap, ◌∙◌}
 use Rattle.identity.specs.Chains.{given}
 use Rattle.identity.specs.Numbers.{session}
-use Rattle.identity.proofs.MadeNumbers.{session_made}
+use Rattle.identity.proofs.Made.{session_made}
 use Rattle.identity.proofs.numbers.SessionIdValue.read.Goals as goal
 
 pub returns : goal.returns
