@@ -1,7 +1,7 @@
 -- What one turn of the reading of digits keeps.
 use Rattle.std.proofs.Common.{◌≡◌, ℕ, ◌+◌, ◌-◌, ◌*◌, ◌<◌, ◌≤◌, List, [], ◌∷◌, length, get_or, drop, Some, None, ◌∙◌, arith}
-use Rattle.std.proofs.lemmas.List.{at_drop_more, at_drop_all}
-use Rattle.std.proofs.lemmas.Bool.{lt-leb, le-leb, and_right, cond-false, cond-true}
+use Rattle.std.proofs.lemmas.List.{at_drop_more}
+use Rattle.std.proofs.lemmas.Bool.{lt-leb, and_right, cond-false}
 use Rattle.identity.specs.Decimals.{digits?, digit_of, value_after, digits_after}
 
 grows : (n : ℕ) (bs : List ℕ) → n ≤ value_after n bs
@@ -15,17 +15,8 @@ big n most bs h = cond-false _ _ _ (and_right (digits? bs) _ (lt-leb (value_afte
 on_digit : (n most b : ℕ) (bs : List ℕ) (d : ℕ) → digit_of b ≡ Some d → digits_after n most (b ∷ bs) ≡ digits_after (n * 10 + d) most bs
 on_digit n most b bs d e = grind arith
 
-on_other : (n most b : ℕ) (bs : List ℕ) → digit_of b ≡ None → digits_after n most (b ∷ bs) ≡ None
-on_other n most b bs e = grind arith
-
-pub step : (n most : ℕ) (xs : List ℕ) (i d : ℕ) → i < length xs → digit_of (get_or xs i 0) ≡ Some d → digits_after n most (drop i xs) ≡ digits_after (n * 10 + d) most (drop (i + 1) xs)
+step : (n most : ℕ) (xs : List ℕ) (i d : ℕ) → i < length xs → digit_of (get_or xs i 0) ≡ Some d → digits_after n most (drop i xs) ≡ digits_after (n * 10 + d) most (drop (i + 1) xs)
 step n most xs i d h e = at_drop_more (digits_after n most) xs i 0 h ∙ on_digit n most (get_or xs i 0) (drop (i + 1) xs) d e
-
-pub stop : (n most : ℕ) (xs : List ℕ) (i : ℕ) → i < length xs → digit_of (get_or xs i 0) ≡ None → digits_after n most (drop i xs) ≡ None
-stop n most xs i h e = at_drop_more (digits_after n most) xs i 0 h ∙ on_other n most (get_or xs i 0) (drop (i + 1) xs) e
-
-pub done : (n most : ℕ) (xs : List ℕ) (i : ℕ) → length xs ≤ i → n ≤ most → digits_after n most (drop i xs) ≡ Some n
-done n most xs i h l = at_drop_all (digits_after n most) xs i h ∙ cond-true _ _ _ (le-leb n most l)
 
 pub past : (n most : ℕ) (xs : List ℕ) (i d : ℕ) → i < length xs → digit_of (get_or xs i 0) ≡ Some d → most < n * 10 + d → digits_after n most (drop i xs) ≡ None
 past n most xs i d h e l = step n most xs i d h e ∙ big (n * 10 + d) most (drop (i + 1) xs) l

@@ -1,4 +1,3 @@
-pub mod Table
 pub mod Digits
 pub mod Made
 pub mod Widths
