@@ -1,32 +1,16 @@
 -- Where a reading leads that goes through a text line by line: past a line that no refusal fits, or to the first refusal.
-use Rattle.std.proofs.Common.{◌≡◌, ℕ, zero, suc, ◌<◌, ◌≤◌, true, false, cond, ltb, List, [], length, is_some, Some, None, Ok, Err, Option, Result, sym, refl, ap, ◌∙◌, subst, inl, inr, arith, lit≤}
+use Rattle.std.proofs.Common.{◌≡◌, ℕ, zero, suc, ◌<◌, ◌≤◌, true, false, cond, ltb, List, [], length, is_some, Some, None, Ok, Err, Option, Result, sym, refl, ap, ◌∙◌, subst, inl, inr, arith}
 use Rattle.std.proofs.lemmas.List.{nil_from_length}
+use Rattle.std.proofs.lemmas.Option.{none-some}
 use Rattle.std.proofs.lemmas.Bool.{both_ways, cases_eq, cond_both, ltb-false}
 use Rattle.refusal.specs.declared.Reason.{Reason}
-use Rattle.refusal.specs.declared.Reason.TheVariants.{
-  MissingKey,
-  UnlawfulValue,
-  TooMany,
-  ShortAnswer,
-  ShortNotifications,
-  AlreadyConfigured,
-  StoreInUse,
-  SliceTwice,
-  EntriesBelowMax,
-  StoreTooSmall,
-  UnknownSlice,
-  ThresholdOutOfRange,
-  AlreadySubscribed,
-  TooManySubscriptions,
-  NoSubscription,
-  StoreFull,
-}
+use Rattle.refusal.specs.declared.Reason.TheVariants.{MissingKey, UnlawfulValue, TooMany}
 use Rattle.refusal.specs.declared.Refusal.{Refusal}
 use Rattle.refusal.specs.Refusals.{number, refusal}
 use Rattle.identity.specs.Chains.{given}
 use Rattle.reader.specs.Faults.{skip, goes_on, value_on, Rule, rule, First, Decided}
 use Rattle.reader.specs.Lines.{Place, more?, after_line, value_of, value_or}
-use Rattle.reader.specs.Readings.{Reading, onward, and_then, as_lawful, lawful, field_at, refused_by, tested, checked}
+use Rattle.reader.specs.Readings.{Reading, onward, and_then, as_lawful, lawful, field_at, refused_by, tested, checked, one_too_many}
 
 -- every refusal that fits stands after line k
 abbrev pub Past : (Refusal → Type 0) → ℕ → Type 0
@@ -67,22 +51,7 @@ before text k = (skip k text, suc k)
 
 -- a missing key has the smallest number
 one_least : (why : Reason) → 1 ≤ number why
-one_least MissingKey = lit≤ tt
-one_least UnlawfulValue = lit≤ tt
-one_least TooMany = lit≤ tt
-one_least ShortAnswer = lit≤ tt
-one_least ShortNotifications = lit≤ tt
-one_least AlreadyConfigured = lit≤ tt
-one_least StoreInUse = lit≤ tt
-one_least SliceTwice = lit≤ tt
-one_least EntriesBelowMax = lit≤ tt
-one_least StoreTooSmall = lit≤ tt
-one_least UnknownSlice = lit≤ tt
-one_least ThresholdOutOfRange = lit≤ tt
-one_least AlreadySubscribed = lit≤ tt
-one_least TooManySubscriptions = lit≤ tt
-one_least NoSubscription = lit≤ tt
-one_least StoreFull = lit≤ tt
+one_least why = grind arith
 
 -- what a line with a key and its reading comes to
 data Line {A : Type 0} (text : List ℕ) (k : ℕ) (key : List ℕ) (read : List ℕ → Option A) : Result A Refusal → Place → Type 0 where
@@ -118,17 +87,17 @@ said text k key v read x s e = ap (λ o. given o read) s ∙ e
 
 -- the value that was read
 pub value_read : {A B : Type 0} (o : Option A) (read : A → Option B) (x : B) → given o read ≡ Some x → (v : A) × (o ≡ Some v)
-value_read None read x e = let z : ◌≡◌ {A = ℕ} 0 1 = cc in absurd (omega arith)
+value_read None read x e = absurd (none-some x e)
 value_read (Some v) read x e = (v, refl)
 
 -- a line that has a value
 pub is_line : (key text : List ℕ) (n : ℕ) (v : List ℕ) → value_on key text n ≡ Some v → 0 < n
-is_line key text zero v e = let z : ◌≡◌ {A = ℕ} 0 1 = cc in absurd (omega arith)
+is_line key text zero v e = absurd (none-some v e)
 is_line key text (suc n) v e = omega arith
 
 -- no value is both there and absent
 pub not_both : {A : Type 0} (o : Option A) (v : A) → o ≡ Some v → o ≡ None → ⊥
-not_both o v s n = let z : ◌≡◌ {A = ℕ} 0 1 = cc in absurd (omega arith)
+not_both o v s n = none-some v (sym n ∙ s)
 
 -- the value under the rule of a line, where the line and its rule are known
 pub under_rule : {A : Type 0} (text key : List ℕ) (read : List ℕ → Option A) (due : ℕ → Rule) (n m : ℕ) (o : Option (List ℕ)) → n ≡ m → due m ≡ rule key read → value_on (due n).key text n ≡ o → value_on key text m ≡ o
@@ -202,6 +171,15 @@ module _ (Fits : Refusal → Type 0) (text : List ℕ) where
     pub checked_step : (fault : A → Option Reason) → ((x : A) → Said text (suc k) key read x → Judged Fits (suc k) (fault x)) → ((x : A) → Said text (suc k) key read x → fault x ≡ None → Past Fits (suc k) → Ends Fits Q (f x (before text (suc k)))) → Ends Fits Q (and_then (checked (field_at key read) fault) f (before text k))
     unfolding checked
     checked_step fault = tested_step fault (field_at key read (before text k)).0 (field_at key read (before text k)).1 (line_way text k key read)
+
+  -- a line of an item that is one too many
+  surplus_line : {A B : Type 0} {key : List ℕ} {read : List ℕ → Option A} (k : ℕ) (Q : B → Place → Type 0) (r : Result A Refusal) (q : Place) → Past Fits k → Ruled Fits text k key read → Line text k key read r q → ((x : A) → Said text (suc k) key read x → Judged Fits (suc k) (Some TooMany)) → Ends Fits Q (onward r q (λ x s. (Err (refusal TooMany (suc k)), s)))
+  surplus_line k Q r q past rules (lacks s) judged = lacking_ends k past rules s
+  surplus_line k Q r q past rules (wrong {v} s e) judged = unread_ends k v past rules s e
+  surplus_line {key = key} {read = read} k Q r q past rules (right {v} {x} s e) judged = let j = judged x (said text k key v read x s e) in leads k TooMany past j.0 j.1
+
+  pub surplus_step : {A B : Type 0} {key : List ℕ} {read : List ℕ → Option A} (k : ℕ) (Q : B → Place → Type 0) → Past Fits k → Ruled Fits text k key read → ((x : A) → Said text (suc k) key read x → Judged Fits (suc k) (Some TooMany)) → Ends Fits Q (one_too_many (field_at key read) (before text k))
+  surplus_step {key = key} {read = read} k Q past rules = surplus_line k Q (field_at key read (before text k)).0 (field_at key read (before text k)).1 past rules (line_way text k key read)
 
   -- the reading goes on where the text does, and else it is at its end
   pub more_or_end : {A : Type 0} (k : ℕ) (Q : A → Place → Type 0) (r : Result A Refusal × Place) (x : A) → (goes_on text k ≡ true → Ends Fits Q r) → (goes_on text k ≡ false → Q x (before text k)) → Ends Fits Q (cond (more? (before text k)) r (Ok x, before text k))

@@ -1,12 +1,10 @@
 -- A request's text is accepted where no refusal fits it, and else refused with the first that fits.
-use Rattle.std.proofs.Common.{◌≡◌, ℕ, zero, suc, ◌+◌, ◌-◌, ◌<◌, ◌≤◌, true, false, leb, List, [], ◌∷◌, ◌++◌, length, is_some, Some, None, codes, Option, refl, ap, subst, inl, inr, arith, lit≤}
+use Rattle.std.proofs.Common.{◌≡◌, ℕ, zero, suc, ◌+◌, ◌-◌, ◌<◌, ◌≤◌, true, false, List, [], ◌∷◌, ◌++◌, length, is_some, Some, None, codes, Option, Result, sym, refl, ap, subst, inl, inr, arith, lit≤}
 use Rattle.std.proofs.lemmas.List.{get_or_past, length_push}
-use Rattle.std.proofs.lemmas.Bool.{both_ways, cond_both, leb-true, leb-false}
-use Rattle.std.proofs.lemmas.Bool.Decides.{nat_tests}
-use Rattle.refusal.specs.declared.Reason.{Reason}
+use Rattle.std.proofs.lemmas.Bool.{both_ways}
 use Rattle.refusal.specs.declared.Reason.TheVariants.{MissingKey, UnlawfulValue, TooMany}
 use Rattle.refusal.specs.declared.Refusal.{Refusal}
-use Rattle.refusal.specs.Refusals.{number, refusal}
+use Rattle.refusal.specs.Refusals.{refusal}
 use Rattle.identity.specs.declared.snssai.Snssai.{Snssai}
 use Rattle.identity.specs.declared.supi.Supi.{Supi}
 use Rattle.identity.specs.Decimals.{decimal_of}
@@ -14,32 +12,19 @@ use Rattle.identity.specs.Slices.{slice_of}
 use Rattle.identity.specs.Subscribers.{supi_of}
 use Rattle.identity.specs.Words.{access_of}
 use Rattle.reader.specs.declared.request.Call.{Call}
+use Rattle.reader.specs.declared.request.Request.{Request}
 use Rattle.reader.specs.declared.words.Operation.{Operation}
 use Rattle.reader.specs.declared.words.Operation.TheVariants.{Ue, Pdu}
 use Rattle.reader.specs.Faults.{goes_on, value_on, rule, Decided}
 use Rattle.reader.specs.Lines.{Place}
 use Rattle.reader.specs.Readings.{Reading, and_then, gives, field_at, all_at}
 use Rattle.reader.specs.RequestFaults.{operation_in, head_rules, slice_rule, rule_on, Due, RequestFault, missing, unlawful, surplus}
-use Rattle.reader.specs.Requests.{Asked, call_of, call_at, ninth, slice_item_at, slices_at, request_at, request_of}
+use Rattle.reader.specs.Requests.{call_lines_at, call_of, call_at, slice_at, slices_at, request_at, request_of}
 use Rattle.reader.specs.Words.{operation_of, ue_flag_of, pdu_flag_of}
-use Rattle.reader.proofs.Reach.{Past, Least, Clear, Clean, Judged, Ends, before, Said, Ruled, value_read, is_line, not_both, under_rule, reads_key, reads_value, in_turn, field_step, checked_step, more_or_end, decides, stays_ended, silent}
-
--- line n may have one slice too many
-data Surplus (n : ℕ) : Reason → Type 0 where
-  too_many : 13 < n → Surplus n TooMany
-
-least_surplus : (n : ℕ) (why : Reason) → Surplus n why → 3 ≤ number why
-least_surplus n why (too_many h) = lit≤ tt
-
-not_surplus : (n : ℕ) (why : Reason) → n ≤ 13 → Surplus n why → ⊥
-not_surplus n why l (too_many h) = omega arith
-
--- a slice that is not refused is among the first eight
-before_ninth : (done : List Snssai) (x : Snssai) → ninth done x ≡ None → length done < 8
-before_ninth done x e = grind (arith, nat_tests)
+use Rattle.reader.proofs.Reach.{Past, Least, Clean, Judged, Ends, before, Said, Ruled, value_read, is_line, not_both, under_rule, reads_key, reads_value, in_turn, field_step, surplus_step, more_or_end, decides, stays_ended, silent}
 
 -- what follows the call of a request
-abbrev rest_of : Call × Supi → Reading Asked
+abbrev rest_of : Call × Supi → Reading Request
 rest_of c =
     and_then (field_at (codes "access=") access_of) (λ a.
     and_then slices_at (λ ss.
@@ -83,51 +68,39 @@ module _ (text : List ℕ) where
     }
 
     -- a line whose value is read can only be one slice too many
-    only-surplus : (x : A) → Said text (suc k) key read x → (g : Refusal) → Fits g → g.line ≡ suc k → Surplus (suc k) g.reason
+    only-surplus : (x : A) → Said text (suc k) key read x → (g : Refusal) → Fits g → g.line ≡ suc k → (g.reason ≡ TooMany) × (13 ≤ k)
     only-surplus x s g (missing {n} d e) z = absurd (reads_key text key read (rule_on text) n (suc k) x z has s e)
     only-surplus x s g (unlawful {n} {v} e l) z = absurd (reads_value text key read (rule_on text) n (suc k) x v z has s e l)
-    only-surplus x s g (surplus h e) z = too_many (omega arith)
+    only-surplus x s g (surplus h e) z = (refl, omega arith)
 
     -- before the ninth slice nothing fits it
-    clear : (x : A) → Said text (suc k) key read x → k < 13 → Clear Fits (suc k)
-    clear x s h g fits e = not_surplus (suc k) g.reason (omega arith) (only-surplus x s g fits e)
+    plain_step : {B : Type 0} (Q : B → Place → Type 0) (f : A → Reading B) → Due text (suc k) → k < 13 → Past Fits k → ((x : A) → Said text (suc k) key read x → Past Fits (suc k) → Ends Fits Q (f x (before text (suc k)))) → Ends Fits Q (and_then (field_at key read) f (before text k))
+    plain_step Q f due h past = field_step Fits text k Q f past (ruled due) (λ x s g fits e. let f = only-surplus x s g fits e in omega arith)
 
     -- a line of the head
     head_step : {B : Type 0} (Q : B → Place → Type 0) (f : A → Reading B) → k < 6 → Past Fits k → ((x : A) → Said text (suc k) key read x → Past Fits (suc k) → Ends Fits Q (f x (before text (suc k)))) → Ends Fits Q (and_then (field_at key read) f (before text k))
-    head_step Q f h past = field_step Fits text k Q f past (ruled (omega arith, inl (omega arith))) (λ x s. clear x s (omega arith))
+    head_step Q f h past = plain_step Q f (omega arith, inl (omega arith)) (omega arith) past
 
   -- every line from the sixth is a slice
   is_slice : (k : ℕ) → 5 ≤ k → Has k (codes "slice=") slice_of
   is_slice k h = get_or_past (head_rules (operation_in text)) (suc k - 1) slice_rule (omega arith)
 
-  -- the ninth slice is refused, and no other
-  slice_judged : (k : ℕ) (done : List Snssai) (x : Snssai) → k ≡ 5 + length done → Said text (suc k) (codes "slice=") slice_of x → Judged Fits (suc k) (ninth done x)
-  slice_judged k done x at s =
-      let has = is_slice k (omega arith) in
-      cond_both (leb 8 (length done)) (Some TooMany) None (Judged Fits (suc k))
-      (λ e.
-      let l = leb-true 8 (length done) e in
+  -- the ninth slice is one too many
+  ninth : (k : ℕ) (x : Snssai) → 13 ≤ k → Said text (suc k) (codes "slice=") slice_of x → Judged Fits (suc k) (Some TooMany)
+  ninth k x h s =
       let v = value_read (value_on (codes "slice=") text (suc k)) slice_of x s in
-      (surplus (omega arith) v.1, λ g fits z. least_surplus (suc k) g.reason (only-surplus k (codes "slice=") slice_of has x s g fits z)))
-      (λ e. let l = leb-false 8 (length done) e in clear k (codes "slice=") slice_of has x s (omega arith))
-
-  -- one slice, and what is read after it
-  slice_step : {B : Type 0} (k : ℕ) (done : List Snssai) (Q : B → Place → Type 0) (f : Snssai → Reading B) → k ≡ 5 + length done → Due text (suc k) → Past Fits k → ((x : Snssai) → length done < 8 → Past Fits (suc k) → Ends Fits Q (f x (before text (suc k)))) → Ends Fits Q (and_then (slice_item_at done) f (before text k))
-  unfolding slice_item_at
-  slice_step k done Q f at due past next =
-      checked_step Fits text k Q f past (ruled k (codes "slice=") slice_of (is_slice k (omega arith)) due) (ninth done)
-      (λ x. slice_judged k done x at)
-      (λ x s e. next x (before_ninth done x e))
+      (surplus (omega arith) v.1, λ g fits z. let f = only-surplus k (codes "slice=") slice_of (is_slice k (omega arith)) x s g fits z in grind arith)
 
   -- all slices, up to the end of the text or to the ninth
-  slice_steps : (n : ℕ) (done : List Snssai) (k : ℕ) → k ≡ 5 + length done → n + length done ≡ 8 → Due text (suc k) → Past Fits k → Ends Fits (λ ss q. Clean Fits) (all_at n slice_item_at done (before text k))
+  slice_steps : (n : ℕ) (done : List Snssai) (k : ℕ) → k ≡ 5 + length done → n + length done ≡ 8 → Due text (suc k) → Past Fits k → Ends Fits (λ ss q. Clean Fits) (all_at n slice_at done (before text k))
   unfolding all_at
-  slice_steps zero done k at room due past = slice_step k done _ _ at due past (λ x l. absurd (omega arith))
+  slice_steps zero done k at room due past =
+      surplus_step Fits text k _ past (ruled k (codes "slice=") slice_of (is_slice k (omega arith)) due) (λ x. ninth k x (omega arith))
   slice_steps (suc n) done k at room due past =
-      slice_step k done _ _ at due past (λ x l past1.
+      plain_step k (codes "slice=") slice_of (is_slice k (omega arith)) _ _ due (omega arith) past (λ x _ past1.
       let longer = length_push done x in
       let next : suc k ≡ suc (suc k) - 1 = omega arith in
-      more_or_end Fits text (suc k) _ (all_at n slice_item_at (done ++ x ∷ []) (before text (suc k))) (done ++ x ∷ [])
+      more_or_end Fits text (suc k) _ (all_at n slice_at (done ++ x ∷ []) (before text (suc k))) (done ++ x ∷ [])
       (λ on. slice_steps n (done ++ x ∷ []) (suc k) (omega arith) (omega arith) (omega arith, inr (subst (λ i. goes_on text i ≡ true) next on)) past1)
       (λ end. ended (suc k) (omega arith) end past1))
 
@@ -140,17 +113,16 @@ module _ (text : List ℕ) where
     called : Past Fits 4 → Called (before text 4)
 
   -- the three lines after the operation
+  lines_read : {F N : Type 0} (flag_of : List ℕ → Option F) (key : List ℕ) (number_of : List ℕ → Option N) → Has 1 (codes "flag=") flag_of → Has 3 key number_of → Past Fits 1 → Ends Fits (λ c q. Called q) (call_lines_at flag_of key number_of (before text 1))
+  lines_read flag_of key number_of flags numbers past1 =
+      head_step 1 (codes "flag=") flag_of flags _ _ (omega arith) past1 (λ flag _ past2.
+      head_step 2 (codes "ue=") supi_of refl _ _ (omega arith) past2 (λ ue _ past3.
+      head_step 3 key number_of numbers _ _ (omega arith) past3 (λ n _ past4.
+      called past4)))
+
   call_under : (op : Operation) → operation_in text ≡ Some op → Past Fits 1 → Ends Fits (λ c q. Called q) (call_of op (before text 1))
-  call_under Ue is past1 =
-      head_step 1 (codes "flag=") ue_flag_of (rw is) _ _ (omega arith) past1 (λ flag _ past2.
-      head_step 2 (codes "ue=") supi_of refl _ _ (omega arith) past2 (λ ue _ past3.
-      head_step 3 (codes "nf=") (decimal_of 65535) (rw is) _ _ (omega arith) past3 (λ nf _ past4.
-      called past4)))
-  call_under Pdu is past1 =
-      head_step 1 (codes "flag=") pdu_flag_of (rw is) _ _ (omega arith) past1 (λ flag _ past2.
-      head_step 2 (codes "ue=") supi_of refl _ _ (omega arith) past2 (λ ue _ past3.
-      head_step 3 (codes "session=") (decimal_of 255) (rw is) _ _ (omega arith) past3 (λ nf _ past4.
-      called past4)))
+  call_under Ue is past1 = in_turn Fits text (λ c q. Called q) _ (call_lines_at ue_flag_of (codes "nf=") (decimal_of 65535)) _ (before text 1) (lines_read ue_flag_of (codes "nf=") (decimal_of 65535) (rw is) (rw is) past1) (λ c q h. h)
+  call_under Pdu is past1 = in_turn Fits text (λ c q. Called q) _ (call_lines_at pdu_flag_of (codes "session=") (decimal_of 255)) _ (before text 1) (lines_read pdu_flag_of (codes "session=") (decimal_of 255) (rw is) (rw is) past1) (λ c q h. h)
 
   call_read : Ends Fits (λ c q. Called q) (call_at (before text 0))
   unfolding call_at
@@ -167,3 +139,6 @@ unfolding request_of
 request_decided text =
     decides (RequestFault text) (request_at (text, 1)).0 (request_at (text, 1)).1
     (in_turn (RequestFault text) text (λ c q. Called text q) _ call_at rest_of (text, 1) (call_read text) (rest_read text))
+
+pub decided : (text : List ℕ) (r : Result Request Refusal) → r ≡ request_of text → Decided (RequestFault text) r
+decided text r e = subst (Decided (RequestFault text)) (sym e) (request_decided text)

@@ -1,5 +1,5 @@
 -- A text of settings is accepted where no refusal fits it, and else refused with the first that fits.
-use Rattle.std.proofs.Common.{◌≡◌, ℕ, zero, suc, ◌+◌, ◌-◌, ◌*◌, ◌/◌, ◌%◌, ◌<◌, ◌≤◌, true, cond, ◌⊎◌, List, [], ◌∷◌, ◌++◌, length, Some, None, Ok, codes, Option, sym, subst, inl, inr, arith}
+use Rattle.std.proofs.Common.{◌≡◌, ℕ, zero, suc, ◌+◌, ◌-◌, ◌*◌, ◌/◌, ◌%◌, ◌<◌, ◌≤◌, true, cond, ◌⊎◌, List, [], ◌∷◌, ◌++◌, length, Some, None, Ok, codes, Option, Result, sym, subst, inl, inr, arith}
 use Rattle.std.proofs.lemmas.List.{length_push}
 use Rattle.refusal.specs.declared.Reason.{Reason}
 use Rattle.refusal.specs.declared.Refusal.{Refusal}
@@ -7,6 +7,7 @@ use Rattle.identity.specs.Decimals.{decimal_of}
 use Rattle.identity.specs.Slices.{slice_of}
 use Rattle.reader.specs.declared.settings.Block.{Block}
 use Rattle.reader.specs.declared.settings.Capacities.{Capacities}
+use Rattle.reader.specs.declared.settings.Settings.{Settings}
 use Rattle.reader.specs.Faults.{goes_on, rule, Decided}
 use Rattle.reader.specs.Lines.{Place, more?}
 use Rattle.reader.specs.Readings.{Reading, and_then, field_at, checked, all_at}
@@ -22,7 +23,7 @@ use Rattle.reader.specs.SettingsFaults.{
   sessions_in,
   SettingsFault,
 }
-use Rattle.reader.specs.Tables.{entries, sessions, slice_fault, entries_fault, sessions_fault, slice_line_at, entries_line_at, sessions_line_at, block_at, blocks_at, settings_of}
+use Rattle.reader.specs.Tables.{entries, sessions, slice_fault, entries_fault, sessions_fault, slice_line_at, entries_line_at, sessions_line_at, block_at, blocks_at, settings_at, settings_of}
 use Rattle.reader.specs.Words.{counted_of}
 use Rattle.reader.proofs.Reach.{Past, Clean, Judged, Ends, before, Said, in_turn, field_step, checked_step, more_or_end, decides}
 use Rattle.reader.proofs.Told.{Told, none_told, told_more}
@@ -82,8 +83,8 @@ module _ (c : Capacities) (text : List ℕ) where
   Continues n done = (k : ℕ) → k ≡ 5 * length done → ((i : ℕ) → (k < i) × (i ≤ 5 + k) → Due text i) → Told text done → Past Fits k → Ends Fits (λ bs q. Clean Fits) (all_at n (block_at c) done (before text k))
 
   -- a seventeenth block is not read
-  full : (done : List Block) (k : ℕ) → 16 ≤ length done → (x : Block) (q : Place) → BlockRead done k x q → Clean Fits
-  full done k h x q (block_read l s e m past) = absurd (omega arith)
+  full : (done : List Block) (k : ℕ) → 16 ≤ length done → (x : Block) (q : Place) → BlockRead done k x q → ⊥
+  full done k h x q (block_read l s e m past) = omega arith
 
   -- after a block comes the next one or the end
   after_block : (n : ℕ) (done : List Block) (k : ℕ) → k ≡ 5 * length done → Told text done → ((x : Block) → Continues n (done ++ x ∷ [])) → (x : Block) (q : Place) → BlockRead done k x q → Ends Fits (λ bs s. Clean Fits) (cond (more? q) (all_at n (block_at c) (done ++ x ∷ []) q) (Ok (done ++ x ∷ []), q))
@@ -100,7 +101,7 @@ module _ (c : Capacities) (text : List ℕ) where
   block_steps : (n : ℕ) (done : List Block) → n + length done ≡ 16 → Continues n done
   unfolding all_at
   block_steps zero done room k at due told past =
-      in_turn Fits text (BlockRead done k) _ (block_at c done) _ (before text k) (block_lines done k at due told past) (full done k (omega arith))
+      in_turn Fits text (BlockRead done k) _ (block_at c done) _ (before text k) (block_lines done k at due told past) (λ x q r. absurd (full done k (omega arith) x q r))
   block_steps (suc n) done room k at due told past =
       in_turn Fits text (BlockRead done k) _ (block_at c done) _ (before text k) (block_lines done k at due told past)
       (after_block n done k at told (λ x. let longer = length_push done x in block_steps n (done ++ x ∷ []) (omega arith)))
@@ -109,5 +110,10 @@ module _ (c : Capacities) (text : List ℕ) where
 pub settings_decided : (c : Capacities) (text : List ℕ) → Decided (SettingsFault c text) (settings_of c text)
 unfolding settings_of blocks_at
 settings_decided c text =
-    decides (SettingsFault c text) (all_at 16 (block_at c) [] (text, 1)).0 (all_at 16 (block_at c) [] (text, 1)).1
+    decides (SettingsFault c text) (settings_at c (text, 1)).0 (settings_at c (text, 1)).1
+    (in_turn (SettingsFault c text) text (λ bs q. Clean (SettingsFault c text)) _ (blocks_at c) _ (text, 1)
     (block_steps c text 16 [] (omega arith) 0 (omega arith) (first_due c text) (none_told text) (from_one c text))
+    (λ bs q none. none))
+
+pub decided : (c : Capacities) (text : List ℕ) (r : Result Settings Refusal) → r ≡ settings_of c text → Decided (SettingsFault c text) r
+decided c text r e = subst (Decided (SettingsFault c text)) (sym e) (settings_decided c text)

@@ -1,11 +1,12 @@
 -- Which refusals fit the lines of a text of settings, and that the reading gives the least of them.
-use Rattle.std.proofs.Common.{◌≡◌, ℕ, suc, ◌+◌, ◌-◌, ◌*◌, ◌/◌, ◌%◌, ◌<◌, ◌≤◌, false, ltb, leb, ◌⊎◌, List, length, get_or, is_some, Some, None, codes, Option, sym, ap, ◌∙◌, subst, inl, inr, arith, lit≤}
+use Rattle.std.proofs.Common.{◌≡◌, ℕ, suc, ◌+◌, ◌-◌, ◌*◌, ◌/◌, ◌%◌, ◌<◌, ◌≤◌, false, ltb, leb, ◌⊎◌, List, length, get_or, is_some, Some, None, codes, Option, sym, refl, ap, ◌∙◌, subst, inl, inr, arith, lit≤}
 use Rattle.std.proofs.lemmas.Bool.{both_ways, cond_both, leb-true, leb-false, ltb-true, ltb-false}
+use Rattle.std.proofs.lemmas.Option.{same_Some}
 use Rattle.std.proofs.lemmas.Bool.Decides.{nat_tests}
 use Rattle.refusal.specs.declared.Reason.{Reason}
 use Rattle.refusal.specs.declared.Reason.TheVariants.{MissingKey, UnlawfulValue, TooMany, SliceTwice, EntriesBelowMax, StoreTooSmall}
 use Rattle.refusal.specs.declared.Refusal.{Refusal}
-use Rattle.refusal.specs.Refusals.{number, refusal}
+use Rattle.refusal.specs.Refusals.{refusal}
 use Rattle.identity.specs.declared.snssai.Snssai.{Snssai}
 use Rattle.identity.specs.Decimals.{decimal_of}
 use Rattle.identity.specs.Slices.{slice_of}
@@ -37,7 +38,7 @@ use Rattle.reader.specs.SettingsFaults.{
 }
 use Rattle.reader.specs.Tables.{named, entries, sessions, slice_fault, entries_fault, sessions_fault}
 use Rattle.reader.proofs.Reach.{Past, Least, Clear, Clean, Judged, Said, Ruled, value_read, is_line, not_both, under_rule, reads_key, reads_value, stays_ended, silent, silent_read}
-use Rattle.reader.proofs.Told.{Told, same_some, total_more}
+use Rattle.reader.proofs.Told.{Told, total_more}
 
 -- the rule of a line by its place in its block, from 0
 pub rule_at : (n j : ℕ) → (n - 1) % 5 ≡ j → rule_on n ≡ get_or block_rules j slice_rule
@@ -101,30 +102,30 @@ module _ (c : Capacities) (text : List ℕ) where
   }
 
   -- what else may fit the slice line of block b, where it names x
-  data OnSlice (b : ℕ) (x : Snssai) : Reason → Type 0 where
-    sixteen : 16 ≤ b → OnSlice b x TooMany
-    again : (a : ℕ) → a < b → slice_in text a ≡ Some x → OnSlice b x SliceTwice
-    no_subscriptions : c.subscriptions < 4 * suc b → OnSlice b x StoreTooSmall
+  abbrev OnSlice : ℕ → Snssai → Reason → Type 0
+  OnSlice b x why =
+      ((why ≡ TooMany) × (16 ≤ b))
+      ⊎ ((why ≡ SliceTwice) × ((a : ℕ) × (a < b) × (slice_in text a ≡ Some x)))
+      ⊎ ((why ≡ StoreTooSmall) × (c.subscriptions < 4 * suc b))
 
   -- its line of UE entries, where its maximum is m and it reserves n
-  data OnEntries (b m n : ℕ) : Reason → Type 0 where
-    fewer : n < m → OnEntries b m n EntriesBelowMax
-    no_entries : c.ues < total (entries_in text) b + n → OnEntries b m n StoreTooSmall
+  abbrev OnEntries : ℕ → ℕ → ℕ → Reason → Type 0
+  OnEntries b m n why = ((why ≡ EntriesBelowMax) × (n < m)) ⊎ ((why ≡ StoreTooSmall) × (c.ues < total (entries_in text) b + n))
 
   -- and its line of sessions, where their maximum is n
-  data OnSessions (b n : ℕ) : Reason → Type 0 where
-    no_sessions : c.sessions < total (sessions_in text) b + n → OnSessions b n StoreTooSmall
+  abbrev OnSessions : ℕ → ℕ → Reason → Type 0
+  OnSessions b n why = (why ≡ StoreTooSmall) × (c.sessions < total (sessions_in text) b + n)
 
   -- whatever fits such a line is one of these
   on-slice : (b : ℕ) (x : Snssai) → slice_in text b ≡ Some x → (g : Refusal) → Fits g → g.line ≡ slice_line_of b → OnSlice b x g.reason
   on-slice b x s g (missing {n} d e) z = absurd (reads_key text (codes "slice=") slice_of rule_on n (slice_line_of b) x z (rule_at (slice_line_of b) 0 (omega arith)) s e)
   on-slice b x s g (unlawful {n} {v} e l) z = absurd (reads_value text (codes "slice=") slice_of rule_on n (slice_line_of b) x v z (rule_at (slice_line_of b) 0 (omega arith)) s e l)
-  on-slice b x s g (surplus d h e) z = sixteen (omega arith)
+  on-slice b x s g (surplus d h e) z = inl (refl, omega arith)
   on-slice b x s g (twice a d {s = y} h e f) z =
       let same : d ≡ b = omega arith in
-      again a (omega arith) (e ∙ sym (subst (λ i. slice_in text i ≡ Some y) same f) ∙ s)
+      inr (inl (refl, (a, omega arith, e ∙ sym (subst (λ i. slice_in text i ≡ Some y) same f) ∙ s)))
   on-slice b x s g (below d e f h) z = absurd (omega arith)
-  on-slice b x s g (few-subscriptions d e h) z = no_subscriptions (omega arith)
+  on-slice b x s g (few-subscriptions d e h) z = inr (inr (refl, omega arith))
   on-slice b x s g (few-entries d e h) z = absurd (omega arith)
   on-slice b x s g (few-sessions d e h) z = absurd (omega arith)
 
@@ -135,15 +136,15 @@ module _ (c : Capacities) (text : List ℕ) where
   on-entries b m n t s g (twice a d h e f) z = absurd (omega arith)
   on-entries b m n t s g (below d {m = i} {n = j} e f h) z =
       let same : d ≡ b = omega arith in
-      let p = same_some (sym (subst (λ a. max_in text a ≡ Some i) same e) ∙ t) in
-      let q = same_some (sym (subst (λ a. entries_in text a ≡ Some j) same f) ∙ s) in
-      fewer (omega arith)
+      let p = same_Some _ _ (sym (subst (λ a. max_in text a ≡ Some i) same e) ∙ t) in
+      let q = same_Some _ _ (sym (subst (λ a. entries_in text a ≡ Some j) same f) ∙ s) in
+      inl (refl, omega arith)
   on-entries b m n t s g (few-subscriptions d e h) z = absurd (omega arith)
   on-entries b m n t s g (few-entries d e h) z =
       let same : d ≡ b = omega arith in
       let sum = total_more (entries_in text) b n s in
       let l = subst (λ a. c.ues < total (entries_in text) (suc a)) same h in
-      no_entries (omega arith)
+      inr (refl, omega arith)
   on-entries b m n t s g (few-sessions d e h) z = absurd (omega arith)
 
   on-sessions : (b n : ℕ) → sessions_in text b ≡ Some n → (g : Refusal) → Fits g → g.line ≡ sessions_line_of b → OnSessions b n g.reason
@@ -158,7 +159,7 @@ module _ (c : Capacities) (text : List ℕ) where
       let same : d ≡ b = omega arith in
       let sum = total_more (sessions_in text) b n s in
       let l = subst (λ a. c.sessions < total (sessions_in text) (suc a)) same h in
-      no_sessions (omega arith)
+      (refl, omega arith)
 
   -- nothing else fits the second and the fifth line of a block
   pub on_plain : {A : Type 0} (n : ℕ) (key : List ℕ) (read : List ℕ → Option A) (x : A) → rule_on n ≡ rule key read → (n % 5 ≡ 2) ⊎ (n % 5 ≡ 0) → Said text n key read x → Clear Fits n
@@ -171,58 +172,18 @@ module _ (c : Capacities) (text : List ℕ) where
   on_plain n key read x has h s g (few-entries d e l) z = omega arith
   on_plain n key read x has h s g (few-sessions d e l) z = omega arith
 
-  -- the numbers of what may fit the slice line
-  least_many : {b : ℕ} {x : Snssai} {why : Reason} → OnSlice b x why → 3 ≤ number why
-  least_many (sixteen h) = lit≤ tt
-  least_many (again a h e) = lit≤ tt
-  least_many (no_subscriptions h) = lit≤ tt
-
-  least_twice : {b : ℕ} {x : Snssai} {why : Reason} → b < 16 → OnSlice b x why → 8 ≤ number why
-  least_twice l (sixteen h) = absurd (omega arith)
-  least_twice l (again a h e) = lit≤ tt
-  least_twice l (no_subscriptions h) = lit≤ tt
-
-  least_small : {b : ℕ} {x : Snssai} {why : Reason} → b < 16 → ((a : ℕ) → a < b → slice_in text a ≡ Some x → ⊥) → OnSlice b x why → 10 ≤ number why
-  least_small l new (sixteen h) = absurd (omega arith)
-  least_small l new (again a h e) = absurd (new a h e)
-  least_small l new (no_subscriptions h) = lit≤ tt
-
-  none_on-slice : {b : ℕ} {x : Snssai} {why : Reason} → b < 16 → ((a : ℕ) → a < b → slice_in text a ≡ Some x → ⊥) → 4 * suc b ≤ c.subscriptions → OnSlice b x why → ⊥
-  none_on-slice l new room (sixteen h) = omega arith
-  none_on-slice l new room (again a h e) = new a h e
-  none_on-slice l new room (no_subscriptions h) = omega arith
-
-  -- and those of what may fit the line of UE entries
-  least_below : {b m n : ℕ} {why : Reason} → OnEntries b m n why → 9 ≤ number why
-  least_below (fewer h) = lit≤ tt
-  least_below (no_entries h) = lit≤ tt
-
-  least_entries : {b m n : ℕ} {why : Reason} → m ≤ n → OnEntries b m n why → 10 ≤ number why
-  least_entries l (fewer h) = absurd (omega arith)
-  least_entries l (no_entries h) = lit≤ tt
-
-  none_on-entries : {b m n : ℕ} {why : Reason} → m ≤ n → total (entries_in text) b + n ≤ c.ues → OnEntries b m n why → ⊥
-  none_on-entries l room (fewer h) = omega arith
-  none_on-entries l room (no_entries h) = omega arith
-
-  least_sessions : {b n : ℕ} {why : Reason} → OnSessions b n why → 10 ≤ number why
-  least_sessions (no_sessions h) = lit≤ tt
-
-  none_on-sessions : {b n : ℕ} {why : Reason} → total (sessions_in text) b + n ≤ c.sessions → OnSessions b n why → ⊥
-  none_on-sessions room (no_sessions h) = omega arith
-
   -- the reading refuses a line of a lawful value as it must, where the blocks before it were read
   pub slice_judged : (done : List Block) (x : Snssai) → Told text done → slice_in text (length done) ≡ Some x → Judged Fits (slice_line_of (length done)) (slice_fault c done x)
   slice_judged done x told s =
       let b = length done in
       let line = Judged Fits (slice_line_of b) in
       let fit = on-slice b x s in
-      cond_both (leb 16 b) _ _ line (λ m. (surplus b (leb-true 16 b m) (value_read (value_on (codes "slice=") text (slice_line_of b)) slice_of x s).1, λ g h z. least_many (fit g h z))) λ m.
+      cond_both (leb 16 b) _ _ line (λ m. (surplus b (leb-true 16 b m) (value_read (value_on (codes "slice=") text (slice_line_of b)) slice_of x s).1, λ g h z. let f = fit g h z in grind arith)) λ m.
       let few = leb-false 16 b m in
-      cond_both (named x done) _ _ line (λ t. let a = told.known x t in (twice a.0 b a.1 a.2 s, λ g h z. least_twice few (fit g h z))) λ t.
+      cond_both (named x done) _ _ line (λ t. let a = told.known x t in (twice a.0 b a.1 a.2 s, λ g h z. let f = fit g h z in grind arith)) λ t.
       let new = λ (a : ℕ). told.unknown x a t in
-      cond_both (ltb c.subscriptions (4 * suc b)) _ _ line (λ p. (few-subscriptions b s (ltb-true c.subscriptions (4 * suc b) p), λ g h z. least_small few new (fit g h z))) λ p.
-      λ g h z. none_on-slice few new (ltb-false c.subscriptions (4 * suc b) p) (fit g h z)
+      cond_both (ltb c.subscriptions (4 * suc b)) _ _ line (λ p. (few-subscriptions b s (ltb-true c.subscriptions (4 * suc b) p), λ g h z. let f = fit g h z in grind (arith, new))) λ p.
+      let room = ltb-false c.subscriptions (4 * suc b) p in λ g h z. let f = fit g h z in grind (arith, new)
 
   pub entries_judged : (done : List Block) (m n : ℕ) → Told text done → max_in text (length done) ≡ Some m → entries_in text (length done) ≡ Some n → Judged Fits (entries_line_of (length done)) (entries_fault c.ues (entries done) m n)
   entries_judged done m n told t s =
@@ -231,11 +192,11 @@ module _ (c : Capacities) (text : List ℕ) where
       let fit = on-entries b m n t s in
       let sum = total_more (entries_in text) b n s in
       let so_far = told.reserved in
-      cond_both (ltb n m) _ _ line (λ l. (below b t s (ltb-true n m l), λ g h z. least_below (fit g h z))) λ l.
+      cond_both (ltb n m) _ _ line (λ l. (below b t s (ltb-true n m l), λ g h z. let f = fit g h z in grind arith)) λ l.
       let enough = ltb-false n m l in
       cond_both (ltb c.ues (entries done + n)) _ _ line
-      (λ p. let q = ltb-true c.ues (entries done + n) p in (few-entries b s (omega arith), λ g h z. least_entries enough (fit g h z)))
-      (λ p. let q = ltb-false c.ues (entries done + n) p in λ g h z. none_on-entries enough (omega arith) (fit g h z))
+      (λ p. let q = ltb-true c.ues (entries done + n) p in (few-entries b s (omega arith), λ g h z. let f = fit g h z in grind arith))
+      (λ p. let q = ltb-false c.ues (entries done + n) p in λ g h z. let f = fit g h z in grind arith)
 
   pub sessions_judged : (done : List Block) (n : ℕ) → Told text done → sessions_in text (length done) ≡ Some n → Judged Fits (sessions_line_of (length done)) (sessions_fault c.sessions (sessions done) n)
   sessions_judged done n told s =
@@ -245,5 +206,5 @@ module _ (c : Capacities) (text : List ℕ) where
       let sum = total_more (sessions_in text) b n s in
       let so_far = told.open_for in
       cond_both (ltb c.sessions (sessions done + n)) _ _ line
-      (λ p. let q = ltb-true c.sessions (sessions done + n) p in (few-sessions b s (omega arith), λ g h z. least_sessions (fit g h z)))
-      (λ p. let q = ltb-false c.sessions (sessions done + n) p in λ g h z. none_on-sessions (omega arith) (fit g h z))
+      (λ p. let q = ltb-true c.sessions (sessions done + n) p in (few-sessions b s (omega arith), λ g h z. let f = fit g h z in grind arith))
+      (λ p. let q = ltb-false c.sessions (sessions done + n) p in λ g h z. let f = fit g h z in grind arith)

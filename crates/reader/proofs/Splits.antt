@@ -1,15 +1,27 @@
 -- The first line of a text, taken off.
-use Rattle.std.proofs.Common.{◌≡◌, ℕ, suc, ◌+◌, ◌-◌, ◌<◌, List, length, take, drop, Some, sym, ap, ◌∙◌, add-one, arith}
+use Rattle.std.proofs.Common.{◌≡◌, ℕ, suc, ◌+◌, ◌-◌, ◌<◌, ◌==◌, List, length, take, drop, Some, None, Option, ap, ◌∙◌, add-one, arith}
 use Rattle.std.proofs.lemmas.List.{take_rest}
-use Rattle.std.proofs.lemmas.Bool.{cond-true, lt-ltb}
-use Rattle.identity.specs.Chains.{given}
+use Rattle.std.proofs.lemmas.Bool.Decides.{nat_tests}
+use Rattle.std.specs.List.{position}
 use Rattle.identity.specs.Prefixes.{after}
+use Rattle.identity.specs.Chains.{given}
 use Rattle.reader.specs.Lines.{end_of_line, first_line, after_line, value_and_rest}
 
-pub taken_off : (key text : List ℕ) (n m : ℕ) (v : List ℕ) → n ≡ end_of_line text → m ≡ n → n < length text → Some v ≡ after key (take m text) → Some (v, take (length text - (n + 1)) (drop (n + 1) text)) ≡ value_and_rest key text
-taken_off key text n m v e f h s =
-    let same : m ≡ end_of_line text = f ∙ e in
-    let first : first_line text ≡ Some (take m text) = cond-true _ _ _ (lt-ltb (end_of_line text) (length text) (omega arith)) ∙ ap (λ k. Some (take k text)) (sym same) in
-    let rest : take (length text - (n + 1)) (drop (n + 1) text) ≡ after_line text = take_rest text (n + 1) ∙ ap (λ k. drop k text) (add-one n ∙ ap suc e) in
-    let left : given (Some v) (λ u. Some (u, after_line text)) ≡ given (after key (take m text)) (λ u. Some (u, after_line text)) = ap (λ o. given o (λ u. Some (u, after_line text))) s in
-    ap (λ r. Some (v, r)) rest ∙ left ∙ ap (λ o. given (given o (after key)) (λ u. Some (u, after_line text))) (sym first)
+-- where the first line feed stands
+abbrev pub feed : List ℕ → Option ℕ
+feed text = position (λ b. b == 10) text
+
+pub no_feed : (key text : List ℕ) → feed text ≡ None → None ≡ value_and_rest key text
+no_feed key text e = grind (arith, nat_tests)
+
+-- the first line, up to its feed
+pub line_before : (text : List ℕ) (n : ℕ) → feed text ≡ Some n → (n < length text) × (n ≡ end_of_line text) × (first_line text ≡ Some (take n text))
+line_before text n e = grind (arith, nat_tests)
+
+-- its value
+pub value_before : (key text : List ℕ) (n : ℕ) → feed text ≡ Some n → value_and_rest key text ≡ given (after key (take n text)) (λ v. Some (v, after_line text))
+value_before key text n e = ap (λ o. given (given o (after key)) (λ v. Some (v, after_line text))) (line_before text n e).2
+
+-- what follows it
+pub rest_after : (text : List ℕ) (n : ℕ) → feed text ≡ Some n → take (length text - (n + 1)) (drop (n + 1) text) ≡ after_line text
+rest_after text n e = take_rest text (n + 1) ∙ ap (λ k. drop k text) (add-one n ∙ ap suc (line_before text n e).1)

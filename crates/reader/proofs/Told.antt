@@ -1,6 +1,9 @@
 -- What the blocks that were read tell of their text.
 use Rattle.std.proofs.Common.{◌≡◌, ℕ, suc, ◌+◌, ◌<◌, true, false, ◌||◌, ◌⊎◌, List, [], ◌∷◌, ◌++◌, length, Some, Option, sym, refl, ap, ◌∙◌, subst, inl, inr, arith}
 use Rattle.std.proofs.lemmas.List.{length_push}
+use Rattle.std.proofs.lemmas.List.Folds.{list_any-append}
+use Rattle.std.proofs.lemmas.Option.{same_Some}
+use Rattle.std.proofs.lemmas.List.Sums.{sum_by_push}
 use Rattle.std.proofs.lemmas.Bool.{and_from, and_parts, both_ways, cases_eq, false≢true, eq-eqb, eqb-true, or_cases, or_parts}
 use Rattle.std.proofs.lemmas.Bool.Decides.{nat_tests}
 use Rattle.identity.specs.declared.snssai.Snssai.{Snssai}
@@ -15,9 +18,6 @@ pub record Told (text : List ℕ) (done : List Block) : Type 0 where
   pub open_for : sessions done ≡ total (sessions_in text) (length done)
   pub known : (s : Snssai) → named s done ≡ true → (a : ℕ) × (a < length done) × (slice_in text a ≡ Some s)
   pub unknown : (s : Snssai) (a : ℕ) → named s done ≡ false → a < length done → slice_in text a ≡ Some s → ⊥
-
-pub same_some : {A : Type 0} {a b : A} → Some a ≡ Some b → a ≡ b
-same_some e = cc
 
 -- a slice is its type and its differentiator
 same_from_test : (a b : Snssai) → same_slice a b ≡ true → a ≡ b
@@ -34,16 +34,7 @@ test_from_same a b e = and_from _ _ (eq-eqb a.sst b.sst (ap (λ s. s.sst) e)) (e
 
 -- one more block at the end
 named_push : (s : Snssai) (done : List Block) (x : Block) → named s (done ++ x ∷ []) ≡ (named s done || same_slice x.slice s)
-named_push s [] x = grind (arith, nat_tests)
-named_push s (b ∷ bs) x = let ih = named_push s bs x in grind (arith, nat_tests)
-
-entries_push : (done : List Block) (x : Block) → entries (done ++ x ∷ []) ≡ entries done + x.ue_entries
-entries_push [] x = omega arith
-entries_push (b ∷ bs) x = omega (arith, entries_push bs x)
-
-sessions_push : (done : List Block) (x : Block) → sessions (done ++ x ∷ []) ≡ sessions done + x.pdu_max
-sessions_push [] x = omega arith
-sessions_push (b ∷ bs) x = omega (arith, sessions_push bs x)
+named_push s done x = let e = list_any-append (λ (b : Block). same_slice b.slice s) done (x ∷ []) in grind (arith, nat_tests)
 
 pub total_more : (told : ℕ → Option ℕ) (b n : ℕ) → told b ≡ Some n → total told (suc b) ≡ total told b + n
 total_more told b n e = ap (λ m. total told b + or_zero m) e
@@ -66,15 +57,15 @@ module _ (text : List ℕ) where
     unknown_more a apart h e =
         let n = length_push done x in
         elim (cases_eq a (length done)) [
-          | inl z ↦ both_ways (same_slice x.slice s) apart.1 (test_from_same x.slice s (same_some (sym is ∙ subst (λ i. slice_in text i ≡ Some s) z e)))
+          | inl z ↦ both_ways (same_slice x.slice s) apart.1 (test_from_same x.slice s (same_Some _ _ (sym is ∙ subst (λ i. slice_in text i ≡ Some s) z e)))
           | inr z ↦ told.unknown s a apart.0 (omega arith) e
         ]
 
   -- a block whose lines stand in the text
   pub told_more : (done : List Block) (x : Block) → Told text done → slice_in text (length done) ≡ Some x.slice → entries_in text (length done) ≡ Some x.ue_entries → sessions_in text (length done) ≡ Some x.pdu_max → Told text (done ++ x ∷ [])
   told_more done x told s n m = record {
-    reserved = entries_push done x ∙ ap (λ i. i + x.ue_entries) told.reserved ∙ sym (total_push (entries_in text) done x x.ue_entries n);
-    open_for = sessions_push done x ∙ ap (λ i. i + x.pdu_max) told.open_for ∙ sym (total_push (sessions_in text) done x x.pdu_max m);
+    reserved = sum_by_push (λ b. b.ue_entries) done x ∙ ap (λ i. i + x.ue_entries) told.reserved ∙ sym (total_push (entries_in text) done x x.ue_entries n);
+    open_for = sum_by_push (λ b. b.pdu_max) done x ∙ ap (λ i. i + x.pdu_max) told.open_for ∙ sym (total_push (sessions_in text) done x x.pdu_max m);
     known = λ t e. known_more done x told t s (or_cases _ _ (sym (named_push t done x) ∙ e));
     unknown = λ t a e. unknown_more done x told t s a (or_parts _ _ (sym (named_push t done x) ∙ e));
   }

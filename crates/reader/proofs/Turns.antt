@@ -1,63 +1,69 @@
--- What one turn of the reading up to the end keeps.
-use Rattle.std.proofs.Common.{◌≡◌, ℕ, zero, suc, ◌+◌, ◌-◌, ◌<◌, Bool, true, false, cond, List, [], ◌∷◌, ◌++◌, length, Ok, Err, Result, sym, ap, ◌∙◌, arith}
+-- What one turn of the reading up to the end comes to.
+use Rattle.std.proofs.Common.{◌≡◌, ℕ, zero, suc, ◌+◌, ◌-◌, ◌<◌, ◌≤◌, true, false, cond, List, [], ◌∷◌, ◌++◌, length, Ok, Err, Result, sym, ap, ◌∙◌, arith}
 use Rattle.std.proofs.lemmas.List.{length_push}
 use Rattle.std.proofs.lemmas.Bool.{cond-true, cond-false}
+use Rattle.std.proofs.lemmas.Bool.Decides.{nat_tests}
+use Rattle.few.specs.declared.few.Full.{Full}
 use Rattle.few.specs.Fews.{pushed}
-use Rattle.few.proofs.Ends.{pushed_in}
+use Rattle.refusal.specs.declared.Reason.TheVariants.{TooMany}
 use Rattle.refusal.specs.declared.Refusal.{Refusal}
+use Rattle.refusal.specs.Refusals.{refusal}
 use Rattle.reader.specs.Lines.{Place, more?}
-use Rattle.reader.specs.Readings.{Reading, onward, and_then, gives, all_at}
+use Rattle.reader.specs.Readings.{Reading, onward, and_then, all_at}
 
 went : {A B : Type 0} (r : Result A Refusal × Place) (m : Reading A) (f : A → Reading B) (p : Place) → r ≡ m p → and_then m f p ≡ onward r.0 r.1 f
 went r m f p e = ap (λ (i : Result _ Refusal × Place). onward i.0 i.1 f) (sym e)
 
-turn : {A : Type 0} (n : ℕ) (one : List A → Reading A) (done : List A) (x : A) (p q : Place) → (Ok x, q) ≡ one done p → more? q ≡ true → all_at (suc n) one done p ≡ all_at n one (done ++ x ∷ []) q
+-- an item that found its place
+placed : {A : Type 0} (most : ℕ) (done ys : List A) (x : A) (r : Result (Unit {0}) Full) → (r, ys) ≡ pushed most x done → r ≡ Ok tt → (length done < most) × (ys ≡ done ++ x ∷ []) × (length ys ≡ length done + 1)
+placed most done ys x r put ok =
+    let room : length done < most = grind (arith, nat_tests) in
+    let grew : ys ≡ done ++ x ∷ [] = grind (arith, nat_tests) in
+    (room, grew, ap length grew ∙ length_push done x)
+
+pub falls : {A : Type 0} (most : ℕ) (done ys : List A) (x : A) (r : Result (Unit {0}) Full) → (r, ys) ≡ pushed most x done → r ≡ Ok tt → most - length ys < most - length done
+falls most done ys x r put ok = let h = placed most done ys x r put ok in omega (arith, h.0, h.2)
+
+-- nothing is read yet
+pub started : {A : Type 0} (most : ℕ) (one : List A → Reading A) (xs : List A) (p : Place) → xs ≡ [] → all_at (most - length xs) one xs p ≡ all_at most one [] p
+started most one xs p e =
+    let z : most - 0 ≡ most = omega arith in
+    ap (λ l. all_at (most - length l) one l p) e ∙ ap (λ k. all_at k one [] p) z
+
+-- In each lemma `whole` is what is read altogether, and what is still to be read comes to that.
+
+-- the item is refused
+pub refused : {A : Type 0} (n : ℕ) (one : List A → Reading A) (done : List A) (f : Refusal) (p q : Place) (whole : Result (List A) Refusal × Place) → (Err f, q) ≡ one done p → all_at n one done p ≡ whole → (Err f, q) ≡ whole
 unfolding all_at
-turn n one done x p q e m =
-    went (Ok x, q) (one done) (λ y r. cond (more? r) (all_at n one (done ++ y ∷ []) r) (Ok (done ++ y ∷ []), r)) p e ∙ cond-true (more? q) _ _ m
+refused zero one done f p q whole e inv = sym (went (Err f, q) (one done) (λ y r. (Err (refusal TooMany p.1), r)) p e) ∙ inv
+refused (suc n) one done f p q whole e inv =
+    sym (went (Err f, q) (one done) (λ y r. cond (more? r) (all_at n one (done ++ y ∷ []) r) (Ok (done ++ y ∷ []), r)) p e) ∙ inv
 
-ended : {A : Type 0} (n : ℕ) (one : List A → Reading A) (done : List A) (x : A) (p q : Place) → (Ok x, q) ≡ one done p → more? q ≡ false → all_at n one done p ≡ (Ok (done ++ x ∷ []), q)
-unfolding all_at
-ended zero one done x p q e m = went (Ok x, q) (one done) (λ y. gives (done ++ y ∷ [])) p e
-ended (suc n) one done x p q e m =
-    went (Ok x, q) (one done) (λ y r. cond (more? r) (all_at n one (done ++ y ∷ []) r) (Ok (done ++ y ∷ []), r)) p e ∙ cond-false (more? q) _ _ m
+module _ {A : Type 0} (most : ℕ) (one : List A → Reading A) (done ys : List A) (x : A) (p q : Place) (r : Result (Unit {0}) Full) (whole : Result (List A) Refusal × Place) where
+  -- the item was read, and there is no place for it
+  pub surplus : (f : Full) → (Ok x, q) ≡ one done p → (r, ys) ≡ pushed most x done → r ≡ Err f → all_at (most - length done) one done p ≡ whole → (Err (refusal TooMany p.1), q) ≡ whole
+  unfolding all_at
+  surplus f e put full inv =
+      let past : most ≤ length done = grind (arith, nat_tests) in
+      let none : 0 ≡ most - length done = omega arith in
+      sym (went (Ok x, q) (one done) (λ y s. (Err (refusal TooMany p.1), s)) p e) ∙ ap (λ k. all_at k one done p) none ∙ inv
 
-broke : {A : Type 0} (n : ℕ) (one : List A → Reading A) (done : List A) (f : Refusal) (p q : Place) → (Err f, q) ≡ one done p → all_at n one done p ≡ (Err f, q)
-unfolding all_at
-broke zero one done f p q e = went (Err f, q) (one done) (λ y. gives (done ++ y ∷ [])) p e
-broke (suc n) one done f p q e =
-    went (Err f, q) (one done) (λ y r. cond (more? r) (all_at n one (done ++ y ∷ []) r) (Ok (done ++ y ∷ []), r)) p e
+  -- the item was read, and found its place
+  next : (n : ℕ) → (Ok x, q) ≡ one done p → all_at (suc n) one done p ≡ cond (more? q) (all_at n one (done ++ x ∷ []) q) (Ok (done ++ x ∷ []), q)
+  unfolding all_at
+  next n e = went (Ok x, q) (one done) (λ y s. cond (more? s) (all_at n one (done ++ y ∷ []) s) (Ok (done ++ y ∷ []), s)) p e
 
--- a turn that read one item more, after those before it
-pub record Turn {A : Type 0} (most : ℕ) (one : List A → Reading A) (done ys : List A) (x : A) (p q : Place) : Type 0 where
-  pub read : (Ok x, q) ≡ one done p
-  pub room : length done < most
-  pub grew : ys ≡ done ++ x ∷ []
+  went_on : (Ok x, q) ≡ one done p → (r, ys) ≡ pushed most x done → r ≡ Ok tt → all_at (most - length done) one done p ≡ cond (more? q) (all_at (most - length ys) one ys q) (Ok ys, q)
+  went_on e put ok =
+      let h = placed most done ys x r put ok in
+      let n = most - length ys in
+      let less : most - length done ≡ suc n = omega (arith, h.0, h.2) in
+      ap (λ k. all_at k one done p) less ∙ next n e ∙ ap (λ zs. cond (more? q) (all_at n one zs q) (Ok zs, q)) (sym h.1)
 
--- by what the reading and the push of the item promise, where the items before it were lent as `before`
-pub turned : {A : Type 0} (most : ℕ) (one : List A → Reading A) (before done ys : List A) (x : A) (p q : Place) (b : Bool) → before ≡ done → (Ok x, q) ≡ one before p → length before < most → (b, ys) ≡ pushed most x done → Turn most one done ys x p q
-turned most one before done ys x p q b same e h put =
-    let room : length done < most = rw (sym same) h in
-    record { read = e ∙ ap (λ l. one l p) same; room = room; grew = pushed_in most x done ys b room put }
+  -- and the text goes on
+  pub again : (Ok x, q) ≡ one done p → (r, ys) ≡ pushed most x done → r ≡ Ok tt → true ≡ more? q → all_at (most - length done) one done p ≡ whole → all_at (most - length ys) one ys q ≡ whole
+  again e put ok m inv = sym (went_on e put ok ∙ cond-true (more? q) _ _ (sym m)) ∙ inv
 
-longer : {A : Type 0} (done ys : List A) (x : A) → ys ≡ done ++ x ∷ [] → length ys ≡ length done + 1
-longer done ys x y = ap length y ∙ length_push done x
-
--- the text goes on
-pub again : {A : Type 0} {most : ℕ} {one : List A → Reading A} {done ys : List A} {x : A} {p q : Place} {r : Result (List A) Refusal × Place} → Turn most one done ys x p q → more? q ≡ true → all_at (most - length done) one done p ≡ r → all_at (most - length ys) one ys q ≡ r
-again {most = most} {one = one} {done = done} {ys = ys} {x = x} {p = p} {q = q} t m inv =
-    let n = most - length ys in
-    let less : most - length done ≡ suc n = omega (arith, longer done ys x t.grew, t.room) in
-    ap (λ zs. all_at n one zs q) t.grew ∙ sym (turn n one done x p q t.read m) ∙ ap (λ k. all_at k one done p) (sym less) ∙ inv
-
-pub falls : {A : Type 0} {most : ℕ} {one : List A → Reading A} {done ys : List A} {x : A} {p q : Place} → Turn most one done ys x p q → most - length ys < most - length done
-falls {done = done} {ys = ys} {x = x} t = omega (arith, longer done ys x t.grew, t.room)
-
--- the text ends
-pub stopped : {A : Type 0} {most : ℕ} {one : List A → Reading A} {done ys : List A} {x : A} {p q : Place} {r : Result (List A) Refusal × Place} → Turn most one done ys x p q → more? q ≡ false → all_at (most - length done) one done p ≡ r → (Ok ys, q) ≡ r
-stopped {most = most} {one = one} {done = done} {x = x} {p = p} {q = q} t m inv =
-    ap (λ l. (Ok l, q)) t.grew ∙ sym (ended (most - length done) one done x p q t.read m) ∙ inv
-
--- the item was refused
-pub refused : {A : Type 0} (n : ℕ) (one : List A → Reading A) (before done : List A) (f : Refusal) (p q : Place) (r : Result (List A) Refusal × Place) → before ≡ done → (Err f, q) ≡ one before p → all_at n one done p ≡ r → (Err f, q) ≡ r
-refused n one before done f p q r same e inv = sym (broke n one done f p q (e ∙ ap (λ l. one l p) same)) ∙ inv
+  -- or ends
+  pub stopped : (Ok x, q) ≡ one done p → (r, ys) ≡ pushed most x done → r ≡ Ok tt → false ≡ more? q → all_at (most - length done) one done p ≡ whole → (Ok ys, q) ≡ whole
+  stopped e put ok m inv = sym (went_on e put ok ∙ cond-false (more? q) _ _ (sym m)) ∙ inv

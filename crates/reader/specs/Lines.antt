@@ -1,17 +1,16 @@
 -- The lines of a text: each ends with a line feed, and is a key with its value.
-use Rattle.std.specs.Prelude.{ℕ, suc, Bool, cond, not, List, length, take, drop, Some, None, Ok, Err, Option, Result, ◌==◌, nat_lt}
+use Rattle.std.specs.Prelude.{ℕ, suc, Bool, cond, List, length, take, drop, Some, None, Ok, Err, Option, Result, ◌==◌, nat_lt}
 use Rattle.std.specs.Borrow.{Bor}
-use Rattle.std.specs.List.{prefix_len}
+use Rattle.std.specs.List.{position_or_len}
 use Rattle.refusal.specs.declared.Refusal.{Refusal}
 use Rattle.refusal.specs.declared.Reason.TheVariants.{MissingKey}
 use Rattle.refusal.specs.Refusals.{refusal}
 use Rattle.identity.specs.Chains.{given}
 use Rattle.identity.specs.Prefixes.{after}
-use Rattle.reader.specs.declared.cursor.Lines.{Lines}
 
 -- how many bytes stand before the first line feed
 abbrev pub end_of_line : List ℕ → ℕ
-end_of_line bs = prefix_len (λ b. not (b == 10)) bs
+end_of_line bs = position_or_len (λ b. b == 10) bs
 
 -- the first line without its line feed, where it has one
 abbrev pub first_line : List ℕ → Option (List ℕ)
@@ -31,9 +30,6 @@ value_and_rest key bs = given (value_of key bs) (λ v. Some (v, after_line bs))
 -- what is left of a text, and the number of the line that comes
 abbrev pub Place : Type 0
 Place = List ℕ × ℕ
-
-abbrev pub place : Lines → Place
-place s = (s.rest.now, s.line)
 
 -- the text goes on
 abbrev pub more? : Place → Bool

@@ -1,9 +1,7 @@
 -- What is read in turn.
 use Rattle.std.specs.Prelude.{ℕ, zero, suc, cond, List, [], ◌∷◌, ◌++◌, Some, None, Ok, Err, Option, Result}
-use Rattle.few.specs.declared.few.Few.{Few}
-use Rattle.few.specs.Fews.{held}
 use Rattle.refusal.specs.declared.Reason.{Reason}
-use Rattle.refusal.specs.declared.Reason.TheVariants.{UnlawfulValue}
+use Rattle.refusal.specs.declared.Reason.TheVariants.{UnlawfulValue, TooMany}
 use Rattle.refusal.specs.declared.Refusal.{Refusal}
 use Rattle.refusal.specs.Refusals.{refusal}
 use Rattle.identity.specs.Decimals.{decimal_of}
@@ -52,12 +50,11 @@ tested at fault (Err e) = Err e
 unfoldable pub checked : {A : Type 0} → Reading A → (A → Option Reason) → Reading A
 checked m fault p = (tested p.1 fault (m p).0, (m p).1)
 
--- items up to the end of the text, at least one; `one` refuses an item when it is one too many
-unfoldable pub all_at : {A : Type 0} → ℕ → (List A → Reading A) → List A → Reading (List A)
-all_at zero one done = and_then (one done) (λ x. gives (done ++ x ∷ []))
-all_at (suc n) one done = and_then (one done) (λ x p. cond (more? p) (all_at n one (done ++ x ∷ []) p) (Ok (done ++ x ∷ []), p))
+-- an item that is one too many: refused at its line where it is lawful
+abbrev pub one_too_many : {A B : Type 0} → Reading A → Reading B
+one_too_many m p = onward (m p).0 (m p).1 (λ x q. (Err (refusal TooMany p.1), q))
 
--- what was read into a bounded list, as a list
-abbrev pub listed : {A : Type 0} {N : ℕ} → Result (Few A N) Refusal → Result (List A) Refusal
-listed (Ok f) = Ok (held f)
-listed (Err e) = Err e
+-- items up to the end of the text, at least one, and at most so many after those that are done
+unfoldable pub all_at : {A : Type 0} → ℕ → (List A → Reading A) → List A → Reading (List A)
+all_at zero one done = one_too_many (one done)
+all_at (suc n) one done = and_then (one done) (λ x p. cond (more? p) (all_at n one (done ++ x ∷ []) p) (Ok (done ++ x ∷ []), p))

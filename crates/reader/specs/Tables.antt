@@ -1,5 +1,6 @@
 -- The text of settings, line by line.
-use Rattle.std.specs.Prelude.{ℕ, suc, ◌+◌, ◌*◌, Bool, false, cond, ◌&&◌, ◌||◌, List, [], ◌∷◌, length, Some, None, Ok, Err, codes, Option, Result, ◌==◌, nat_le, nat_lt}
+use Rattle.std.specs.Prelude.{ℕ, suc, ◌+◌, ◌*◌, Bool, cond, ◌&&◌, List, [], length, Some, None, codes, Option, Result, ◌==◌, nat_le, nat_lt}
+use Rattle.std.specs.List.{list_any, sum_by}
 use Rattle.refusal.specs.declared.Reason.{Reason}
 use Rattle.refusal.specs.declared.Reason.TheVariants.{TooMany, SliceTwice, EntriesBelowMax, StoreTooSmall}
 use Rattle.refusal.specs.declared.Refusal.{Refusal}
@@ -8,7 +9,6 @@ use Rattle.identity.specs.Slices.{slice_of}
 use Rattle.reader.specs.declared.settings.Block.{Block}
 use Rattle.reader.specs.declared.settings.Capacities.{Capacities}
 use Rattle.reader.specs.declared.settings.Settings.{Settings}
-use Rattle.few.specs.Fews.{held}
 use Rattle.reader.specs.Readings.{Reading, and_then, gives, field_at, number_at, checked, all_at}
 use Rattle.reader.specs.Words.{counted_of}
 
@@ -17,17 +17,14 @@ same_slice a b = a.sst == b.sst && a.sd == b.sd
 
 -- a block names the slice
 abbrev pub named : Snssai → List Block → Bool
-named s [] = false
-named s (b ∷ bs) = same_slice b.slice s || named s bs
+named s bs = list_any (λ b. same_slice b.slice s) bs
 
 -- what blocks reserve in the UE store and in the session store
 abbrev pub entries : List Block → ℕ
-entries [] = 0
-entries (b ∷ bs) = b.ue_entries + entries bs
+entries bs = sum_by (λ b. b.ue_entries) bs
 
 abbrev pub sessions : List Block → ℕ
-sessions [] = 0
-sessions (b ∷ bs) = b.pdu_max + sessions bs
+sessions bs = sum_by (λ b. b.pdu_max) bs
 
 -- four subscriptions for each slice
 abbrev pub subscriptions : ℕ → ℕ
@@ -69,14 +66,14 @@ block_at c bs =
     and_then (field_at (codes "count=") counted_of) (λ a.
     gives (record { slice = s; ue_max = max; ue_entries = n; pdu_max = m; counted = a }))))))
 
-abbrev pub tabled : Result Settings Refusal → Result (List Block) Refusal
-tabled (Ok s) = Ok (held s.blocks)
-tabled (Err e) = Err e
-
 -- one block or more, up to the end of the text
 unfoldable pub blocks_at : Capacities → Reading (List Block)
 blocks_at c = all_at 16 (block_at c) []
 
+-- whole settings
+abbrev pub settings_at : Capacities → Reading Settings
+settings_at c = and_then (blocks_at c) (λ bs. gives (record { blocks = bs }))
+
 -- what a text of settings says for stores of these capacities, or why and at which line it is refused
-unfoldable pub settings_of : Capacities → List ℕ → Result (List Block) Refusal
-settings_of c text = (blocks_at c (text, 1)).0
+unfoldable pub settings_of : Capacities → List ℕ → Result Settings Refusal
+settings_of c text = (settings_at c (text, 1)).0

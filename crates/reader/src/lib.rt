@@ -1,7 +1,7 @@
 // Reads the texts of a depot: settings and requests, line by line.
 #![tactic(auto)]
 
-mod cursor;
+mod items;
 mod lines;
 pub mod request;
 pub mod requests;

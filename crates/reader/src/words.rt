@@ -1,8 +1,8 @@
 // The words of a request and of settings.
 ghost use Rattle.reader.specs.Words.{operation_of, ue_flag_of, pdu_flag_of, counted_of};
 
-use identity::bytes::same;
 use identity::value::Value;
+use identity::word::word;
 
 #[derive(Clone, Copy, PartialEq, Eq, Debug)]
 pub enum Operation {
@@ -35,13 +35,7 @@ impl Value for Operation {
     ghost written = { operation_of };
 
     fn read(bytes: &[u8]) -> Option<Operation> {
-        if same(bytes, b"ue") {
-            Some(Operation::Ue)
-        } else if same(bytes, b"pdu") {
-            Some(Operation::Pdu)
-        } else {
-            None
-        }
+        word(bytes, &[(b"ue", Operation::Ue), (b"pdu", Operation::Pdu)])
     }
 }
 
@@ -49,13 +43,13 @@ impl Value for UeFlag {
     ghost written = { ue_flag_of };
 
     fn read(bytes: &[u8]) -> Option<UeFlag> {
-        if same(bytes, b"increase") {
-            Some(UeFlag::Increase)
-        } else if same(bytes, b"decrease") {
-            Some(UeFlag::Decrease)
-        } else {
-            None
-        }
+        word(
+            bytes,
+            &[
+                (b"increase", UeFlag::Increase),
+                (b"decrease", UeFlag::Decrease),
+            ],
+        )
     }
 }
 
@@ -63,15 +57,14 @@ impl Value for PduFlag {
     ghost written = { pdu_flag_of };
 
     fn read(bytes: &[u8]) -> Option<PduFlag> {
-        if same(bytes, b"increase") {
-            Some(PduFlag::Increase)
-        } else if same(bytes, b"decrease") {
-            Some(PduFlag::Decrease)
-        } else if same(bytes, b"update") {
-            Some(PduFlag::Update)
-        } else {
-            None
-        }
+        word(
+            bytes,
+            &[
+                (b"increase", PduFlag::Increase),
+                (b"decrease", PduFlag::Decrease),
+                (b"update", PduFlag::Update),
+            ],
+        )
     }
 }
 
@@ -79,14 +72,13 @@ impl Value for Counted {
     ghost written = { counted_of };
 
     fn read(bytes: &[u8]) -> Option<Counted> {
-        if same(bytes, b"3gpp") {
-            Some(Counted::ThreeGpp)
-        } else if same(bytes, b"non-3gpp") {
-            Some(Counted::NonThreeGpp)
-        } else if same(bytes, b"both") {
-            Some(Counted::Both)
-        } else {
-            None
-        }
+        word(
+            bytes,
+            &[
+                (b"3gpp", Counted::ThreeGpp),
+                (b"non-3gpp", Counted::NonThreeGpp),
+                (b"both", Counted::Both),
+            ],
+        )
     }
 }
