@@ -1,2 +1,1 @@
 pub mod Backs
-pub mod Fronts

@@ -1,16 +1,15 @@
 -- A slice's long form.
-use Rattle.std.specs.Prelude.{ℕ, ◌+◌, ◌/◌, ◌%◌, cond, List, [], ◌∷◌, nat_lt}
+use Rattle.std.specs.Prelude.{ℕ, ◌+◌, ◌/◌, ◌%◌, cond, List, [], ◌∷◌, ◌++◌, nat_lt}
 use Rattle.identity.specs.declared.snssai.Snssai.{Snssai}
 
 -- an upper-case hexadecimal digit
 abbrev pub hex_of : ℕ → ℕ
 hex_of n = cond (nat_lt n 10) (48 + n) (55 + n)
 
-abbrev pub sd_digit : ℕ → ℕ → ℕ
-sd_digit sd unit = hex_of ((sd / unit) % 16)
+-- the two digits of an octet
+abbrev pub octet_text : ℕ → List ℕ
+octet_text n = hex_of (n / 16) ∷ hex_of (n % 16) ∷ []
 
--- two digits, a hyphen and six digits
+-- the octet of the type, a hyphen and the three octets of the differentiator
 abbrev pub long_text : Snssai → List ℕ
-long_text s =
-    hex_of (s.sst / 16) ∷ hex_of (s.sst % 16) ∷ 45
-    ∷ sd_digit s.sd 1048576 ∷ sd_digit s.sd 65536 ∷ sd_digit s.sd 4096 ∷ sd_digit s.sd 256 ∷ sd_digit s.sd 16 ∷ sd_digit s.sd 1 ∷ []
+long_text s = octet_text s.sst ++ 45 ∷ [] ++ octet_text (s.sd / 65536) ++ octet_text (s.sd / 256 % 256) ++ octet_text (s.sd % 256)

@@ -1,7 +1,7 @@
 // Writes the lines of an answer into a lent buffer.
 #![tactic(auto)]
 
-mod decimal;
-mod hexes;
+mod hex;
 pub mod lines;
 pub mod put;
+pub mod text;
