@@ -1,6 +1,5 @@
 -- The pieces of an input.
-use Rattle.std.specs.Prelude.{ℕ, suc, Bool, true, cond, ◌&&◌, List, [], ◌∷◌, ◌++◌, length, Some, None, Option, ◌==◌}
-use Rattle.checker.specs.declared.pieces.Pieces.{Pieces}
+use Rattle.std.specs.Prelude.{ℕ, suc, Bool, true, cond, ◌&&◌, List, [], ◌∷◌, ◌++◌, length, ◌==◌}
 
 -- the pieces of what is left, after the bytes of the piece so far: an empty line ends a piece, and the end of the
 -- input ends one that has bytes; `fresh` says that a line begins here
@@ -15,11 +14,3 @@ pieces_of input = cut true [] input
 abbrev pub up_to : Bool → List ℕ → ℕ
 up_to fresh [] = 0
 up_to fresh (b ∷ bs) = cond (fresh && b == 10) 0 (suc (up_to (b == 10) bs))
-
-abbrev pub left : Pieces → List (List ℕ)
-left p = pieces_of p.rest.now
-
--- the first piece, and those after it
-abbrev pub first_of : List (List ℕ) → Option (List ℕ) × List (List ℕ)
-first_of [] = (None, [])
-first_of (p ∷ ps) = (Some p, ps)

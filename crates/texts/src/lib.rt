@@ -6,6 +6,8 @@ mod identities;
 #[cfg(test)]
 mod outputs;
 #[cfg(test)]
+mod refused;
+#[cfg(test)]
 mod requests;
 #[cfg(test)]
 mod settings;

@@ -1,9 +1,11 @@
-use few::few::Few;
+use crate::refused::refused;
+use arrayvec::ArrayString;
 use identity::snssai::Snssai;
 use reader::settings::{Block, Capacities};
 use reader::tables::read_settings;
 use reader::words::Counted;
-use std::process::Abort;
+use std::fmt;
+use std::fmt::Write;
 use std::test::Fail;
 
 const LARGE: Capacities = Capacities {
@@ -19,49 +21,11 @@ const SMALL: Capacities = Capacities {
     subscriptions: 8,
 };
 
-fn refused(
-    rt: &impl Abort,
-    text: &[u8],
-    capacities: Capacities,
-    number: u8,
-    line: usize,
-) -> Result<(), Fail> {
-    match read_settings(text, capacities) {
-        Ok(_) => Err(Fail::new("the settings were accepted")),
-        Err(refusal) => {
-            assert_eq!(rt; refusal.reason.number(), number);
-            assert_eq!(rt; refusal.line, line);
-            Ok(())
-        }
-    }
-}
-
-fn accepted(
-    rt: &impl Abort,
-    text: &[u8],
-    capacities: Capacities,
-    blocks: usize,
-) -> Result<(), Fail> {
-    match read_settings(text, capacities) {
-        Ok(settings) => {
-            assert_eq!(rt; settings.blocks.as_slice().len(), blocks);
-            Ok(())
-        },
-        Err(_) => Err(Fail::new("the settings were refused")),
-    }
-}
-
 #[test]
 fn one_block(rt: HostRuntime) -> Result<(), Fail> {
-    let Some(slice) = Snssai::new(1, 0xA1) else {
-        return Err(Fail::new("no slice"));
-    };
-    let Ok(settings) = read_settings(
-        b"slice=01-0000A1\nue-max=20000\nue-entries=40000\npdu-max=40000\ncount=non-3gpp\n",
-        LARGE,
-    ) else {
-        return Err(Fail::new("refused"));
-    };
+    let slice = Snssai::new(1, 0xA1).ok_or("no slice")?;
+    let text = "slice=01-0000A1\nue-max=20000\nue-entries=40000\npdu-max=40000\ncount=non-3gpp\n";
+    let settings = read_settings(text.as_bytes(), LARGE)?;
     let [block] = settings.blocks.as_slice() else {
         return Err(Fail::new("not one block"));
     };
@@ -80,176 +44,169 @@ fn one_block(rt: HostRuntime) -> Result<(), Fail> {
 
 #[test]
 fn blocks_within_their_stores(rt: HostRuntime) -> Result<(), Fail> {
-    accepted(
-        &rt,
-        b"slice=01\nue-max=0\nue-entries=0\npdu-max=0\ncount=both\n",
-        SMALL,
-        1,
-    )?;
-    accepted(
-        &rt,
-        b"slice=01\nue-max=3\nue-entries=4\npdu-max=3\ncount=3gpp\n",
-        SMALL,
-        1,
-    )?;
-    accepted(
-        &rt,
-        b"slice=01\nue-max=2\nue-entries=2\npdu-max=1\ncount=3gpp\nslice=01-000000\nue-max=1\nue-entries=2\npdu-max=2\ncount=both\n",
-        SMALL,
-        2,
-    )
+    let texts = [
+        (
+            "slice=01\nue-max=0\nue-entries=0\npdu-max=0\ncount=both\n",
+            1,
+        ),
+        (
+            "slice=01\nue-max=3\nue-entries=4\npdu-max=3\ncount=3gpp\n",
+            1,
+        ),
+        (
+            "slice=01\nue-max=2\nue-entries=2\npdu-max=1\ncount=3gpp\nslice=01-000000\nue-max=1\nue-entries=2\npdu-max=2\ncount=both\n",
+            2,
+        ),
+    ];
+    for (text, blocks) in texts {
+        let settings = read_settings(text.as_bytes(), SMALL)?;
+        assert_eq!(rt; settings.blocks.as_slice().len(), blocks, "{text:?}");
+    }
+    Ok(())
 }
 
 #[test]
-fn a_line_that_is_missing(rt: HostRuntime) -> Result<(), Fail> {
-    refused(&rt, b"", LARGE, 1, 1)?;
-    refused(&rt, b"slice=01", LARGE, 1, 1)?;
-    refused(&rt, b"ue-max=1\n", LARGE, 1, 1)?;
-    refused(&rt, b"slice=01\n", LARGE, 1, 2)?;
-    refused(&rt, b"slice=01\nue-entries=1\n", LARGE, 1, 2)?;
-    refused(&rt, b"slice=01\nue-max=1\n\n", LARGE, 1, 3)?;
-    refused(
-        &rt,
-        b"slice=01\nue-max=1\nue-entries=1\ncount=3gpp\n",
-        LARGE,
-        1,
-        4,
-    )?;
-    refused(
-        &rt,
-        b"slice=01\nue-max=1\nue-entries=1\npdu-max=1\n",
-        LARGE,
-        1,
-        5,
-    )?;
-    refused(
-        &rt,
-        b"slice=01\nue-max=1\nue-entries=1\npdu-max=1\ncount=3gpp",
-        LARGE,
-        1,
-        5,
-    )?;
-    refused(
-        &rt,
-        b"slice=01\nue-max=1\nue-entries=1\npdu-max=1\ncount=3gpp\n\n",
-        LARGE,
-        1,
-        6,
-    )?;
-    refused(
-        &rt,
-        b"slice=01\nue-max=1\nue-entries=1\npdu-max=1\ncount=3gpp\nslice=02\n",
-        LARGE,
-        1,
-        7,
-    )
+fn a_line_that_is_missing(rt: HostRuntime) {
+    let texts = [
+        ("", 1),
+        ("slice=01", 1),
+        ("ue-max=1\n", 1),
+        ("slice=01\n", 2),
+        ("slice=01\nue-entries=1\n", 2),
+        ("slice=01\nue-max=1\n\n", 3),
+        ("slice=01\nue-max=1\nue-entries=1\ncount=3gpp\n", 4),
+        ("slice=01\nue-max=1\nue-entries=1\npdu-max=1\n", 5),
+        ("slice=01\nue-max=1\nue-entries=1\npdu-max=1\ncount=3gpp", 5),
+        (
+            "slice=01\nue-max=1\nue-entries=1\npdu-max=1\ncount=3gpp\n\n",
+            6,
+        ),
+        (
+            "slice=01\nue-max=1\nue-entries=1\npdu-max=1\ncount=3gpp\nslice=02\n",
+            7,
+        ),
+    ];
+    for (text, line) in texts {
+        assert_eq!(rt;
+            refused(read_settings(text.as_bytes(), LARGE)),
+            Some((1, line)),
+            "{text:?}"
+        );
+    }
 }
 
 #[test]
-fn a_value_that_is_unlawful(rt: HostRuntime) -> Result<(), Fail> {
-    refused(&rt, b"slice=1\n", LARGE, 2, 1)?;
-    refused(&rt, b"slice=01\nue-max=20001\n", LARGE, 2, 2)?;
-    refused(&rt, b"slice=01\nue-max=01\n", LARGE, 2, 2)?;
-    refused(&rt, b"slice=01\nue-max=\n", LARGE, 2, 2)?;
-    refused(&rt, b"slice=01\nue-max=1\nue-entries=40001\n", LARGE, 2, 3)?;
-    refused(
-        &rt,
-        b"slice=01\nue-max=1\nue-entries=1\npdu-max=40001\n",
-        LARGE,
-        2,
-        4,
-    )?;
-    refused(
-        &rt,
-        b"slice=01\nue-max=1\nue-entries=1\npdu-max=1\ncount=any\n",
-        LARGE,
-        2,
-        5,
-    )?;
-    refused(
-        &rt,
-        b"slice=01\nue-max=1\nue-entries=1\npdu-max=1\ncount=3gpp \n",
-        LARGE,
-        2,
-        5,
-    )
+fn a_value_that_is_unlawful(rt: HostRuntime) {
+    let texts = [
+        ("slice=1\n", 1),
+        ("slice=01\nue-max=20001\n", 2),
+        ("slice=01\nue-max=01\n", 2),
+        ("slice=01\nue-max=\n", 2),
+        ("slice=01\nue-max=1\nue-entries=40001\n", 3),
+        ("slice=01\nue-max=1\nue-entries=1\npdu-max=40001\n", 4),
+        (
+            "slice=01\nue-max=1\nue-entries=1\npdu-max=1\ncount=any\n",
+            5,
+        ),
+        (
+            "slice=01\nue-max=1\nue-entries=1\npdu-max=1\ncount=3gpp \n",
+            5,
+        ),
+    ];
+    for (text, line) in texts {
+        assert_eq!(rt;
+            refused(read_settings(text.as_bytes(), LARGE)),
+            Some((2, line)),
+            "{text:?}"
+        );
+    }
 }
 
 #[test]
-fn a_slice_that_is_named_twice(rt: HostRuntime) -> Result<(), Fail> {
-    refused(
-        &rt,
-        b"slice=01\nue-max=1\nue-entries=1\npdu-max=1\ncount=3gpp\nslice=01-FFFFFF\nue-max=1\n",
-        LARGE,
-        8,
-        6,
-    )
+fn a_slice_that_is_named_twice(rt: HostRuntime) {
+    let text =
+        "slice=01\nue-max=1\nue-entries=1\npdu-max=1\ncount=3gpp\nslice=01-FFFFFF\nue-max=1\n";
+    assert_eq!(rt;
+        refused(read_settings(text.as_bytes(), LARGE)),
+        Some((8, 6))
+    );
 }
 
 #[test]
-fn too_few_entries(rt: HostRuntime) -> Result<(), Fail> {
-    refused(&rt, b"slice=01\nue-max=3\nue-entries=2\n", LARGE, 9, 3)?;
+fn too_few_entries(rt: HostRuntime) {
+    let text = "slice=01\nue-max=3\nue-entries=2\n";
+    assert_eq!(rt;
+        refused(read_settings(text.as_bytes(), LARGE)),
+        Some((9, 3))
+    );
     // both below the maximum and beyond the store: the smaller number is given
-    refused(
-        &rt,
-        b"slice=01\nue-max=1\nue-entries=3\npdu-max=0\ncount=3gpp\nslice=02\nue-max=3\nue-entries=2\n",
-        SMALL,
-        9,
-        8,
-    )
+    let text =
+        "slice=01\nue-max=1\nue-entries=3\npdu-max=0\ncount=3gpp\nslice=02\nue-max=3\nue-entries=2\n";
+    assert_eq!(rt;
+        refused(read_settings(text.as_bytes(), SMALL)),
+        Some((9, 8))
+    );
 }
 
 #[test]
-fn a_store_that_is_too_small(rt: HostRuntime) -> Result<(), Fail> {
-    refused(&rt, b"slice=01\nue-max=3\nue-entries=5\n", SMALL, 10, 3)?;
-    refused(
-        &rt,
-        b"slice=01\nue-max=3\nue-entries=4\npdu-max=4\n",
-        SMALL,
-        10,
-        4,
-    )?;
-    refused(
-        &rt,
-        b"slice=01\nue-max=1\nue-entries=3\npdu-max=1\ncount=3gpp\nslice=02\nue-max=1\nue-entries=2\n",
-        SMALL,
-        10,
-        8,
-    )?;
-    refused(
-        &rt,
-        b"slice=01\nue-max=1\nue-entries=2\npdu-max=2\ncount=3gpp\nslice=02\nue-max=1\nue-entries=2\npdu-max=2\n",
-        SMALL,
-        10,
-        9,
-    )?;
-    refused(
-        &rt,
-        b"slice=01\nue-max=0\nue-entries=0\npdu-max=0\ncount=3gpp\nslice=02\nue-max=0\nue-entries=0\npdu-max=0\ncount=3gpp\nslice=03\n",
-        SMALL,
-        10,
-        11,
-    )
+fn a_store_that_is_too_small(rt: HostRuntime) {
+    let texts = [
+        ("slice=01\nue-max=3\nue-entries=5\n", 3),
+        ("slice=01\nue-max=3\nue-entries=4\npdu-max=4\n", 4),
+        (
+            "slice=01\nue-max=1\nue-entries=3\npdu-max=1\ncount=3gpp\nslice=02\nue-max=1\nue-entries=2\n",
+            8,
+        ),
+        (
+            "slice=01\nue-max=1\nue-entries=2\npdu-max=2\ncount=3gpp\nslice=02\nue-max=1\nue-entries=2\npdu-max=2\n",
+            9,
+        ),
+        (
+            "slice=01\nue-max=0\nue-entries=0\npdu-max=0\ncount=3gpp\nslice=02\nue-max=0\nue-entries=0\npdu-max=0\ncount=3gpp\nslice=03\n",
+            11,
+        ),
+    ];
+    for (text, line) in texts {
+        assert_eq!(rt;
+            refused(read_settings(text.as_bytes(), SMALL)),
+            Some((10, line)),
+            "{text:?}"
+        );
+    }
 }
 
 // Blocks of the slices 00, 01, .. with nothing reserved, and then a line.
-fn many(blocks: usize, line: &[u8]) -> Few<u8, 2048> {
-    let mut text = Few::new(0);
-    for i in 0..blocks.min(32) {
-        text.extend(b"slice=");
-        text.push(b'0' + (i / 10) as u8);
-        text.push(b'0' + (i % 10) as u8);
-        text.extend(b"\nue-max=0\nue-entries=0\npdu-max=0\ncount=both\n");
+fn many(blocks: usize, line: &str) -> Result<ArrayString<2048>, fmt::Error> {
+    let mut text = ArrayString::new();
+    for i in 0..blocks {
+        write!(
+            text,
+            "slice={i:02}\nue-max=0\nue-entries=0\npdu-max=0\ncount=both\n"
+        )?;
     }
-    text.extend(line);
-    text
+    text.write_str(line)?;
+    Ok(text)
+}
+
+#[test]
+fn sixteen_blocks(rt: HostRuntime) -> Result<(), Fail> {
+    let settings = read_settings(many(16, "")?.as_str().as_bytes(), LARGE)?;
+    assert_eq!(rt; settings.blocks.as_slice().len(), 16);
+    Ok(())
 }
 
 #[test]
 fn a_seventeenth_block(rt: HostRuntime) -> Result<(), Fail> {
-    accepted(&rt, many(16, b"").as_slice(), LARGE, 16)?;
-    refused(&rt, many(17, b"").as_slice(), LARGE, 3, 81)?;
-    refused(&rt, many(16, b"slice=00\n").as_slice(), LARGE, 3, 81)?;
-    refused(&rt, many(16, b"slice=0\n").as_slice(), LARGE, 2, 81)?;
-    refused(&rt, many(16, b"ue-max=0\n").as_slice(), LARGE, 1, 81)
+    let texts = [
+        (17, "", 3),
+        (16, "slice=00\n", 3),
+        (16, "slice=0\n", 2),
+        (16, "ue-max=0\n", 1),
+    ];
+    for (blocks, line, number) in texts {
+        let text = many(blocks, line)?;
+        let read = read_settings(text.as_str().as_bytes(), LARGE);
+        assert_eq!(rt; refused(read), Some((number, 81)), "{line:?}");
+    }
+    Ok(())
 }

@@ -1,40 +1,32 @@
 // Checks the texts of a depot on standard input: settings first, then requests.
 #![tactic(auto)]
 
-ghost use Rattle.std.specs.Prelude.{◌≤◌, length, IfOk};
-
+use arrayvec::ArrayVec;
 use checker::pieces::Pieces;
-use checker::reports::report;
+use checker::reports::Kind;
 use std::io;
 use std::io::{Read, Write};
 
-// Reads until the buffer is full or the input ends, and says how much it read.
-fn fill(from: &mut impl Read, buffer: &mut [u8]) -> io::Result<usize>
-    ensures { IfOk result (λ n. n ≤ length buffer.old) }
-{
-    let mut len: usize = 0;
-    while len < buffer.len() {
-        let got = from.read(&mut buffer[len..])?;
-        if got == 0 {
-            break;
-        }
-        len += got;
+// How much of the input is held; the rest is cut off.
+const HELD: usize = 16384;
+
+fn print_report(out: &mut impl Write, kind: Kind, piece: &[u8]) -> io::Result<()> {
+    let mut text = [0u8; 264];
+    if let Some(end) = kind.report(piece, &mut text) {
+        out.write_all(&text[..end])?;
     }
-    Ok(len)
+    out.write_all(b"\n")
 }
 
 fn main(rt: HostRuntime) -> io::Result<()> {
-    let mut input = [0u8; 16384];
-    let len = fill(&mut rt.stdin(), &mut input)?;
-    let mut pieces = Pieces::new(&input[0..len]);
-    let mut text = [0u8; 264];
-    let mut first = true;
-    while let Some(piece) = pieces.next() {
-        if let Some(end) = report(piece, first, &mut text) {
-            rt.stdout().write_all(&text[0..end])?;
-        }
-        rt.stdout().write_all(b"\n")?;
-        first = false;
+    let mut input = ArrayVec::<u8, HELD>::new();
+    io::copy(&mut rt.stdin().take(HELD as u64), &mut input)?;
+    let mut pieces = Pieces::new(input.as_slice());
+    if let Some(settings) = pieces.next() {
+        print_report(&mut rt.stdout(), Kind::Settings, settings)?;
+    }
+    for request in pieces {
+        print_report(&mut rt.stdout(), Kind::Request, request)?;
     }
     Ok(())
 }
