@@ -1,7 +1,6 @@
 // Checks the texts of a depot on standard input: settings first, then requests.
 #![tactic(auto)]
 
-use arrayvec::ArrayVec;
 use checker::pieces::Pieces;
 use checker::reports::Kind;
 use std::io;
@@ -19,9 +18,9 @@ fn print_report(out: &mut impl Write, kind: Kind, piece: &[u8]) -> io::Result<()
 }
 
 fn main(rt: HostRuntime) -> io::Result<()> {
-    let mut input = ArrayVec::<u8, HELD>::new();
-    io::copy(&mut rt.stdin().take(HELD as u64), &mut input)?;
-    let mut pieces = Pieces::new(input.as_slice());
+    let mut input = [0u8; HELD];
+    let len = io::copy(&mut rt.stdin().take(HELD as u64), &mut &mut input[..])?;
+    let mut pieces = Pieces::new(&input[..HELD.min(len as usize)]);
     if let Some(settings) = pieces.next() {
         print_report(&mut rt.stdout(), Kind::Settings, settings)?;
     }
