@@ -1,5 +1,7 @@
 pub mod Answers
+pub mod Keys
 pub mod Laws
 pub mod Places
-pub mod Walks
+pub mod Props
 pub mod Turns
+pub mod Walks

@@ -1,6 +1,6 @@
 -- The map by the place of a key in its list.
-use Rattle.std.proofs.Common.{◌≡◌, ◌<◌, ◌≤◌, Bool, true, false, List, [], ◌∷◌, length, get_or, set, is_some, Some, None, refl, arith}
-use Rattle.std.specs.List.{insert, remove}
+use Rattle.std.proofs.Common.{◌≡◌, ◌<◌, ◌≤◌, Bool, true, false, not, List, [], ◌∷◌, length, get_or, set, is_some, Some, None, refl, arith}
+use Rattle.std.specs.List.{insert, remove, position_or_len}
 use Rattle.store.specs.declared.entry.Entry.{Entry}
 use Rattle.store.specs.Maps.{entry, lookup, holds, place, adding, removing, least_from}
 
@@ -48,3 +48,17 @@ module _ {K V : Type 0} (below : K → K → Bool) where
   pub is_some_lookup : (es : List (Entry K V)) (k : K) → is_some (lookup below es k) ≡ holds below es k
   is_some_lookup [] k = refl
   is_some_lookup (e ∷ es) k = let h = is_some_lookup es k in grind arith
+
+  -- a test that passes at the keys which are not below k passes first at the place of k
+  pub place_first : (k : K) (test : Entry K V → Bool) (passes : (e : Entry K V) → test e ≡ not (below e.key k)) → (es : List (Entry K V)) → place below es k ≡ position_or_len test es
+  place_first k test passes [] = refl
+  place_first k test passes (e ∷ es) = let h = place_first k test passes es in let p = passes e in grind arith
+
+  -- the first entry that is not below k is not above it, where k is held
+  pub holds_at : (es : List (Entry K V)) (k : K) (d : Entry K V) → place below es k < length es → (below (get_or es (place below es k) d).key k ≡ false) × (holds below es k ≡ not (below k (get_or es (place below es k) d).key))
+  holds_at [] k d p = grind arith
+  holds_at (e ∷ es) k d p = let h = holds_at es k d in grind arith
+
+  pub holds_past : (es : List (Entry K V)) (k : K) → length es ≤ place below es k → holds below es k ≡ false
+  holds_past [] k p = refl
+  holds_past (e ∷ es) k p = let h = holds_past es k in grind arith

@@ -1,5 +1,11 @@
 -- A strict total order as a test.
 use Rattle.std.specs.Prelude.{◌≡◌, Bool, true, false, cond, Some, None, Option}
+use Rattle.std.specs.Ordering.{is_lt}
+use Rattle.std.specs.declared.cmp.Ordering.{Ordering}
+
+-- the first key ranks before the second
+abbrev pub below : {K : Type 0} → (K → K → Ordering) → K → K → Bool
+below cmp a b = is_lt (cmp a b)
 
 -- irreflexive and transitive, and any two keys that are not equal are in order
 pub record Order {K : Type 0} (below : K → K → Bool) : Type 0 where

@@ -2,6 +2,7 @@
 ghost use Rattle.std.specs.Prelude.{◌≡◌, ℕ, ◌≤◌, List, length};
 ghost use Rattle.store.specs.declared.entry.Entry.{Entry};
 ghost use Rattle.store.specs.Maps.{Ascending, lookup, least_from, putting, taking};
+ghost use Rattle.store.specs.Orders.{below};
 
 use crate::key::Key;
 use refusal::Refusal;
@@ -17,38 +18,35 @@ pub trait Store {
     // how many keys it can hold
     ghost bound: { Self → ℕ };
 
-    // the representation stands for its map; every promise is made of a sound store
-    ghost sound: { Self → Type 0 };
-
-    ghost bounded: { (s : Self) → sound s → length (entries s) ≤ bound s };
-
     fn capacity(&self) -> usize
         ensures { result ≡ bound self.now };
 
     // The number of keys.
     fn size(&self) -> usize
-        ensures counts { sound self.now → result ≡ length (entries self.now) }
-        ensures ascends { sound self.now → Ascending Self.Key.Key.below (entries self.now) };
+        ensures { result ≡ length (entries self.now) };
 
     fn find(&self, key: &Self::Key) -> Option<Self::Value>
-        ensures { sound self.now → result ≡ lookup Self.Key.Key.below (entries self.now) key.now };
+        ensures { result ≡ lookup (below Self.Key.cmp) (entries self.now) key.now };
 
     // Sets the value of a key; refused where the store is full and the key is new.
     fn put(&mut self, key: Self::Key, value: Self::Value) -> Result<(), Refusal>
         ensures room { bound self.new ≡ bound self.old }
-        ensures keeps { sound self.old → sound self.new }
-        ensures puts { sound self.old → (result, entries self.new) ≡ putting Self.Key.Key.below (bound self.old) (entries self.old) key value };
+        ensures puts { (result, entries self.new) ≡ putting (below Self.Key.cmp) (bound self.old) (entries self.old) key value };
 
     // Removes a key, and answers whether it was held.
     fn take(&mut self, key: &Self::Key) -> bool
         ensures room { bound self.new ≡ bound self.old }
-        ensures keeps { sound self.old → sound self.new }
-        ensures takes { sound self.old → (result, entries self.new) ≡ taking Self.Key.Key.below (entries self.old) key.now };
+        ensures takes { (result, entries self.new) ≡ taking (below Self.Key.cmp) (entries self.old) key.now };
+
+    // each value of the type is a map, with room for its keys
+    ghost ascends: { (s : Self) → Ascending (below Self.Key.cmp) (entries s) };
+
+    ghost bounded: { (s : Self) → length (entries s) ≤ bound s };
 }
 
 // A store that can be walked in the order of its keys.
 pub trait WalkingStore: Store {
     // The least held key that is not below the given one.
     fn next(&self, from: &Self::Key) -> Option<Self::Key>
-        ensures { Self.Store.sound self.now → result ≡ least_from Self.Key.Key.below (Self.Store.entries self.now) from.now };
+        ensures { result ≡ least_from (below Self.Key.cmp) (Self.entries self.now) from.now };
 }

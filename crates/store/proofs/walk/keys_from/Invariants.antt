@@ -1,7 +1,8 @@
+use Rattle.store.specs.Orders.{below}
 use Rattle.store.proofs.Walks.{Met, ahead}
 use Rattle.store.proofs.walk.keys_from.Given as goal
 
-abbrev pub invariant-loop-i : goal.invariant-loop-i
-invariant-loop-i g l =
-    let left = ahead g.S.Key.Key.below (g.S.Store.entries l.store) in
-    g.S.Store.sound l.store → Met (left l.initial.next) l.initial.places (left l.next) l.places l.i
+abbrev pub invariant-loop-met : goal.invariant-loop-met
+invariant-loop-met g l =
+    let left = ahead (below g.S.Key.Ord.cmp) (g.S.Store.entries l.store) in
+    Met (left l.initial.next) l.initial.places (left l.next) l.places l.met
