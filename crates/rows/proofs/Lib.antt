@@ -1,2 +1,3 @@
+pub mod KeyRows
 pub mod Loose
 pub mod Shifts

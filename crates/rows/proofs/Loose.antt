@@ -1,15 +1,19 @@
 -- The map of entries that stand in no order.
-use Rattle.std.proofs.Common.{◌≡◌, ℕ, zero, suc, ◌+◌, ◌<◌, Bool, true, false, cond, List, [], ◌∷◌, ◌++◌, length, get_or, take, drop, set, is_some, Some, None, Ordering, Less, Equal, Greater, sym, refl, ap, ◌∙◌, subst, ⊎_elim, arith}
+use Rattle.std.proofs.Common.{◌≡◌, ℕ, zero, suc, ◌+◌, ◌-◌, ◌<◌, Bool, true, false, cond, List, [], ◌∷◌, ◌++◌, length, get_or, take, set, is_some, Some, None, Option, ltb, sym, refl, ap, ◌∙◌, subst, ⊎_elim, arith, length-set, length-take, length-append}
 use lib.Seq.{take-set-lt}
-use Rattle.std.specs.Ordering.{MatchOrdering}
-use Rattle.std.proofs.lemmas.List.{drop_more, take_more, take_more_set, take-set-le, get_or-take, get_or_push, length-take-le}
+use Rattle.std.specs.List.{find, position_or_len, swap_remove}
+use Rattle.std.specs.Option.{option_map}
+use Rattle.std.proofs.lemmas.List.{take_all, take_more, take-set-le, get_or-take, length-take-le}
+use Rattle.std.proofs.lemmas.List.Folds.{find_at}
+use Rattle.std.proofs.lemmas.List.Sums.{passes_at_first}
+use Rattle.std.proofs.lemmas.Option.{gets}
 use Rattle.std.proofs.lemmas.Bool.{cases_lt, both_ways}
 use Rattle.store.specs.declared.entry.Entry.{Entry}
 use Rattle.store.specs.Orders.{Order}
 use Rattle.store.specs.Maps.{entry, lookup, holds, adding, removing, Ascending}
-use Rattle.store.proofs.Laws.{lookup-adding_same, lookup-adding_other, lookup-removing_same, lookup-removing_other, length-adding, length-removing, ascending_adding, removing-adding, adding-adding}
+use Rattle.store.proofs.Laws.{lookup-adding_same, lookup-adding_other, lookup-removing_same, lookup-removing_other, length-adding, length-removing, removing-adding, adding-adding}
 use Rattle.store.proofs.Places.{is_some_lookup}
-use Rattle.rows.specs.LooseRows.{sorted, Distinct, few}
+use Rattle.rows.specs.LooseRows.{sorted, Distinct, Spots, ascending_sorted, few}
 
 -- a key that is held is not one that is missing
 other_key : {K V : Type 0} (below : K → K → Bool) (es : List (Entry K V)) (k q : K) → holds below es k ≡ true → holds below es q ≡ false → q ≡ k → ⊥
@@ -23,11 +27,11 @@ module _ {K V : Type 0} (below : K → K → Bool) (es : List (Entry K V)) (k : 
   pub missing_found : lookup below es k ≡ None → holds below es k ≡ false
   missing_found e = sym (is_some_lookup below es k) ∙ ap is_some e
 
-module _ {K V : Type 0} {below : K → K → Bool} (o : Order below) where
-  pub ascending_sorted : (es : List (Entry K V)) → Ascending below (sorted below es)
-  ascending_sorted [] = tt
-  ascending_sorted (e ∷ es) = ascending_adding o (sorted below es) e.key e.value (ascending_sorted es)
+some_item : {X : Type 0} (xs : List X) (i : ℕ) → i < length xs → X
+some_item [] i h = absurd (omega arith)
+some_item (x ∷ xs) i h = x
 
+module _ {K V : Type 0} {below : K → K → Bool} (o : Order below) where
   -- as many keys as entries
   pub full : (es : List (Entry K V)) → Distinct below es → length (sorted below es) ≡ length es
   full [] d = refl
@@ -91,7 +95,7 @@ module _ {K V : Type 0} {below : K → K → Bool} (o : Order below) where
       let k = (get_or es i d).key in
       let t : i < length es = omega arith in
       let ne = other_key below (sorted below es) k e.key (held_at es i d t) u.0 in
-      let r = removing-after (sorted below es) k e.key e.value ne (ascending_sorted es) in
+      let r = removing-after (sorted below es) k e.key e.value ne (ascending_sorted o es) in
       let b = missing_before (removing below (sorted below es) k) e.key x.key e.value (ap (λ l. holds below l x.key) (sym r) ∙ m) in
       let p = set-sorted es i x d u.1 t b.1 in
       let a = adding-adding o (removing below (sorted below es) k) x.key e.key x.value e.value (λ q. b.0 (sym q)) in
@@ -118,7 +122,7 @@ module _ {K V : Type 0} {below : K → K → Bool} (o : Order below) where
   fill_sorted : (es : List (Entry K V)) (i : ℕ) (x d : Entry K V) → Distinct below (es ++ x ∷ []) → i < length es → sorted below (set es i x) ≡ removing below (sorted below (es ++ x ∷ [])) (get_or es i d).key
   fill_sorted es i x d u h =
       let k = (get_or es i d).key in
-      let a = ascending_sorted es in
+      let a = ascending_sorted o es in
       let f = distinct_front es x u in
       let ne = other_key below (sorted below es) k x.key (held_at es i d h) f.0 in
       let s = set-sorted es i x d f.1 h (still_missing (sorted below es) k x.key a ne f.0) in
@@ -134,62 +138,92 @@ module _ {K V : Type 0} {below : K → K → Bool} (o : Order below) where
       let r = removing-adding o (sorted below es) x.key x.value m in
       cc
 
-  -- a scan that stands at the key has found its value
-  pub found_here : (es : List (Entry K V)) (i : ℕ) (k : K) (d : Entry K V) → i < length es → (get_or es i d).key ≡ k → lookup below (sorted below (drop i es)) k ≡ Some (get_or es i d).value
-  found_here es i k d h e =
-      let m = drop_more es i d h in
-      let l = lookup-adding_same o (sorted below (drop (i + 1) es)) (get_or es i d).key (get_or es i d).value in
-      cc
-
-  -- a scan goes on where the keys differ
-  pub found_later : (es : List (Entry K V)) (i : ℕ) (k : K) (d : Entry K V) → i < length es → (k ≡ (get_or es i d).key → ⊥) → lookup below (sorted below (drop i es)) k ≡ lookup below (sorted below (drop (i + 1) es)) k
-  found_later es i k d h ne =
-      ap (λ l. lookup below (sorted below l) k) (drop_more es i d h) ∙ lookup-adding_other o (sorted below (drop (i + 1) es)) (get_or es i d).key k (get_or es i d).value ne
-
   -- a new value in the place of the key
-  pub replaced : (es : List (Entry K V)) (i : ℕ) (k : K) (v : V) → Distinct below es → i < length es → (get_or es i (entry k v)).key ≡ k → sorted below (set es i (entry k v)) ≡ adding below (sorted below es) k v
+  replaced : (es : List (Entry K V)) (i : ℕ) (k : K) (v : V) → Distinct below es → i < length es → (get_or es i (entry k v)).key ≡ k → sorted below (set es i (entry k v)) ≡ adding below (sorted below es) k v
   replaced es i k v u h e =
-      let a = ascending_sorted es in
+      let a = ascending_sorted o es in
       set-sorted es i (entry k v) (entry k v) u h (ap (λ q. holds below (removing below (sorted below es) q) k) e ∙ gone (sorted below es) k a)
       ∙ ap (λ q. adding below (removing below (sorted below es) q) k v) e
       ∙ adding_over (sorted below es) k v a
 
-  -- a new entry in the first free cell
-  pub pushed : (cs : List (Entry K V)) (n : ℕ) (k : K) (v : V) → n < length cs → holds below (sorted below (take n cs)) k ≡ false → sorted below (take (n + 1) (set cs n (entry k v))) ≡ adding below (sorted below (take n cs)) k v
-  pushed cs n k v h m = ap (sorted below) (take_more_set cs n (entry k v) h) ∙ push_sorted (take n cs) (entry k v) m
-
   -- the last entry in the place of the key
-  pub taken : (cs : List (Entry K V)) (n i : ℕ) (k : K) (x : Entry K V) → Distinct below (take (n + 1) cs) → n < length cs → i < n + 1 → x ≡ get_or cs n x → (get_or (take (n + 1) cs) i x).key ≡ k → sorted below (take n (set cs i x)) ≡ removing below (sorted below (take (n + 1) cs)) k
-  taken cs n i k x u h l is e =
-      let w : take (n + 1) cs ≡ take n cs ++ x ∷ [] = take_more cs n x h ∙ ap (λ y. take n cs ++ y ∷ []) (sym is) in
+  taken : (es : List (Entry K V)) (i : ℕ) (k : K) (d : Entry K V) → Distinct below es → i < length es → (get_or es i d).key ≡ k → sorted below (swap_remove es i d) ≡ removing below (sorted below es) k
+  taken es i k d u l e =
+      let n = length es - 1 in
+      let x = get_or es n d in
+      let w : es ≡ take n es ++ x ∷ [] = sym (take_all (n + 1) es (omega arith)) ∙ take_more es n d (omega arith) in
       let f = subst (Distinct below) w u in
-      let s : length (take n cs) ≡ n = length-take-le n cs (omega arith) in
+      let s : length (take n es) ≡ n = length-take-le n es (omega arith) in
       ⊎_elim
-      (λ b. let t = take-set-lt n cs i x b in
-      let r = fill_sorted (take n cs) i x x f (omega arith) in
-      let p = get_or-take n cs i x b in
-      let q = get_or-take (n + 1) cs i x l in
+      (λ b. let t = take-set-lt n es i x b in
+      let r = fill_sorted (take n es) i x d f (omega arith) in
+      let p = get_or-take n es i d b in
       cc)
-      (λ b. let t = take-set-le n cs i x b in
-      let r = front_sorted (take n cs) x f in
-      let p = get_or_push (take n cs) x x i (omega arith) in
+      (λ b. let t = take-set-le n es i x b in
+      let r = front_sorted (take n es) x f in
+      let j : i ≡ n = omega arith in
       cc)
       (cases_lt i n)
 
   -- no key stands twice after a put
-  pub distinct_added : (es fs : List (Entry K V)) (k : K) (v : V) → Distinct below es → sorted below fs ≡ adding below (sorted below es) k v → length fs ≡ length es + cond (holds below (sorted below es) k) 0 1 → Distinct below fs
+  distinct_added : (es fs : List (Entry K V)) (k : K) (v : V) → Distinct below es → sorted below fs ≡ adding below (sorted below es) k v → length fs ≡ length es + cond (holds below (sorted below es) k) 0 1 → Distinct below fs
   distinct_added es fs k v u e l = distinct fs (ap length e ∙ length-adding o (sorted below es) k v ∙ ap (λ n. n + cond (holds below (sorted below es) k) 0 1) (full es u) ∙ sym l)
 
   -- nor after a held key was taken
-  pub distinct_removed : (es fs : List (Entry K V)) (k : K) → Distinct below es → holds below (sorted below es) k ≡ true → sorted below fs ≡ removing below (sorted below es) k → length fs + 1 ≡ length es → Distinct below fs
+  distinct_removed : (es fs : List (Entry K V)) (k : K) → Distinct below es → holds below (sorted below es) k ≡ true → sorted below fs ≡ removing below (sorted below es) k → length fs + 1 ≡ length es → Distinct below fs
   distinct_removed es fs k u h e l =
       let f = full es u in
       let r = length-removing o (sorted below es) k in
       let s = ap length e in
       distinct fs (grind arith)
 
--- keys that `compare` does not call equal
-pub ranked_apart : {K : Type 0} {below : K → K → Bool} (o : Order below) (a b : K) (r : Ordering) → MatchOrdering r (below a b ≡ true) (a ≡ b) (below b a ≡ true) → (r ≡ Equal → ⊥) → b ≡ a → ⊥
-ranked_apart {below = below} o a b Less h n e = both_ways (below a b) (ap (below a) e ∙ o.irreflexive a) h
-ranked_apart o a b Equal h n e = n refl
-ranked_apart {below = below} o a b Greater h n e = both_ways (below b a) (ap (below b) (sym e) ∙ o.irreflexive b) h
+  module _ (k : K) (test : Entry K V → Bool) (passes : (e : Entry K V) → test e ≡ true → e.key ≡ k) (fails : (e : Entry K V) → test e ≡ false → k ≡ e.key → ⊥) where
+    -- the first entry that has the key is the one that the map has
+    found_first : (es : List (Entry K V)) → lookup below (sorted below es) k ≡ option_map (λ e. e.value) (find test es)
+    found_first [] = refl
+    found_first (e ∷ es) =
+        let h = found_first es in
+        let p = passes e in
+        let l = lookup-adding_same o (sorted below es) e.key e.value in
+        let m = lookup-adding_other o (sorted below es) e.key k e.value in
+        let f = fails e in
+        grind arith
+
+    pub spotted : (es : List (Entry K V)) (r : Option ℕ) → r ≡ cond (ltb (position_or_len test es) (length es)) (Some (position_or_len test es)) None → Spots below es k r
+    spotted es None ran =
+        let f = found_first es in
+        let a = find_at test es in
+        grind (arith, gets)
+    spotted es (Some i) ran =
+        let f = found_first es in
+        let a = find_at test es in
+        let at : (i ≡ position_or_len test es) × (i < length es) = grind arith in
+        let first = λ (d : Entry K V). passes_at_first test es d in
+        (at.1, λ d. let t = first d in let p = passes (get_or es i d) in grind arith, λ d. grind (arith, gets))
+
+  module _ (es fs : List (Entry K V)) (k : K) (u : Distinct below es) where
+    pub spot_held : (i : ℕ) → Spots below es k (Some i) → holds below (sorted below es) k ≡ true
+    spot_held i s = held_found below (sorted below es) k _ (s.2 (some_item es i s.0))
+
+    -- a new value in the place of the key
+    pub value_set : (i : ℕ) (v : V) → Spots below es k (Some i) → fs ≡ set es i (entry k v) → Distinct below fs × (sorted below fs ≡ adding below (sorted below es) k v)
+    value_set i v s e =
+        let r = ap (sorted below) e ∙ replaced es i k v u s.0 (s.1 (entry k v)) in
+        let h = spot_held i s in
+        (distinct_added es fs k v u r (grind (arith, length-set)), r)
+
+    -- a new entry behind the others
+    pub entry_pushed : (v : V) → Spots below es k None → fs ≡ es ++ entry k v ∷ [] → Distinct below fs × (sorted below fs ≡ adding below (sorted below es) k v)
+    entry_pushed v s e =
+        let m = missing_found below (sorted below es) k s in
+        let r = ap (sorted below) e ∙ push_sorted es (entry k v) m in
+        (distinct_added es fs k v u r (grind (arith, length-append)), r)
+
+    -- the last entry in the place of the key
+    pub gap_filled : (i : ℕ) → Spots below es k (Some i) → ((d : Entry K V) → fs ≡ swap_remove es i d) → Distinct below fs × (sorted below fs ≡ removing below (sorted below es) k)
+    gap_filled i s e =
+        let d = some_item es i s.0 in
+        let f = e d in
+        let r = ap (sorted below) f ∙ taken es i k d u s.0 (s.1 d) in
+        let h = spot_held i s in
+        (distinct_removed es fs k u h r (grind (arith, length-set, length-take)), r)

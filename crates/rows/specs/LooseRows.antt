@@ -1,20 +1,14 @@
 -- What a loose row stands for.
-use Rattle.std.specs.Prelude.{◌≡◌, ℕ, suc, ◌+◌, ◌<◌, ◌≤◌, Bool, false, List, [], ◌∷◌, length, take, Some, None, Option, slice_index_or}
-use Rattle.std.proofs.Common.{arith, length-take}
+use Rattle.std.specs.Prelude.{◌≡◌, ℕ, suc, ◌+◌, ◌<◌, ◌≤◌, Bool, false, List, [], ◌∷◌, length, Some, None, Option, slice_index_or}
+use Rattle.std.specs.Coded.{×_prop, Unit-prop}
+use Rattle.std.proofs.Common.{arith}
+use Rattle.std.proofs.Math.Bool.{Bool-set}
 use Rattle.std.proofs.lemmas.Bool.{cond_both}
 use Rattle.store.specs.declared.entry.Entry.{Entry}
 use Rattle.store.specs.Orders.{Order}
-use Rattle.store.specs.Maps.{lookup, holds, adding}
-use Rattle.store.proofs.Laws.{length-adding}
-use Rattle.rows.specs.declared.loose_row.LooseRow.{LooseRow}
-
--- the first cells, which are in use
-abbrev pub in_use : {K V : Type 0} → LooseRow K V → List (Entry K V)
-in_use s = take s.used s.cells.now
-
--- how many cells there are
-abbrev pub cell_count : {K V : Type 0} → LooseRow K V → ℕ
-cell_count s = length s.cells.now
+use Rattle.store.specs.Maps.{lookup, holds, adding, Ascending}
+use Rattle.store.proofs.Laws.{length-adding, ascending_adding}
+use Rattle.rows.specs.Cells.{Filling, cell_count}
 
 -- the map of the entries: each is added to those behind it
 abbrev pub sorted : {K V : Type 0} → (K → K → Bool) → List (Entry K V) → List (Entry K V)
@@ -26,10 +20,18 @@ abbrev pub Distinct : {K V : Type 0} → (K → K → Bool) → List (Entry K V)
 Distinct below [] = Unit {0}
 Distinct below (e ∷ es) = (holds below (sorted below es) e.key ≡ false) × Distinct below es
 
--- the key is in no cell, or the entry of cell i has it and is the one that the map has
-abbrev pub Spots : {K V : Type 0} → (K → K → Bool) → LooseRow K V → K → Option ℕ → Type 0
-Spots below s k None = lookup below (sorted below (in_use s)) k ≡ None
-Spots {K} {V} below s k (Some i) = (i < s.used) × (i < cell_count s) × ((d : Entry K V) → (slice_index_or (in_use s) i d).key ≡ k) × ((d : Entry K V) → lookup below (sorted below (in_use s)) k ≡ Some (slice_index_or (in_use s) i d).value)
+-- the key stands nowhere, or the entry at place i has it and is the one that the map has
+abbrev pub Spots : {K V : Type 0} → (K → K → Bool) → List (Entry K V) → K → Option ℕ → Type 0
+Spots below es k None = lookup below (sorted below es) k ≡ None
+Spots {K} {V} below es k (Some i) = (i < length es) × ((d : Entry K V) → (slice_index_or es i d).key ≡ k) × ((d : Entry K V) → lookup below (sorted below es) k ≡ Some (slice_index_or es i d).value)
+
+pub distinct_prop : {K V : Type 0} (below : K → K → Bool) (es : List (Entry K V)) → IsProp (Distinct below es)
+distinct_prop below [] = Unit-prop
+distinct_prop below (e ∷ es) = ×_prop (Bool-set _ _) (distinct_prop below es)
+
+pub ascending_sorted : {K V : Type 0} {below : K → K → Bool} (o : Order below) (es : List (Entry K V)) → Ascending below (sorted below es)
+ascending_sorted o [] = tt
+ascending_sorted {below = below} o (e ∷ es) = ascending_adding o (sorted below es) e.key e.value (ascending_sorted o es)
 
 -- no more keys than entries
 pub few : {K V : Type 0} {below : K → K → Bool} (o : Order below) (es : List (Entry K V)) → length (sorted below es) ≤ length es
@@ -39,5 +41,5 @@ few {below = below} o (e ∷ es) =
     rw (length-adding o (sorted below es) e.key e.value) (cond_both (holds below (sorted below es) e.key) 0 1 (λ n. length (sorted below es) + n ≤ suc (length es)) (λ _. omega arith) (λ _. omega arith))
 
 -- no more keys than cells
-pub few-sorted : {K V : Type 0} {below : K → K → Bool} (o : Order below) (n : ℕ) (xs : List (Entry K V)) → length (sorted below (take n xs)) ≤ length xs
-few-sorted o n xs = let h = few o (take n xs) in omega (arith, length-take n xs)
+pub few_sorted : {K V : Type 0} {below : K → K → Bool} (o : Order below) (f : Filling (Entry K V)) → length (sorted below f.items) ≤ cell_count f
+few_sorted o f = let h = few o f.items in omega arith

@@ -1,51 +1,53 @@
 // Entries in key order without gaps.
-ghost use Rattle.std.specs.Prelude.{◌≡◌, min, [], length};
-ghost use Rattle.store.specs.Maps.{Ascending};
-ghost use Rattle.rows.specs.KeyRows.{in_use, cell_count, Seeks, few_in_use};
+ghost use Rattle.std.specs.Prelude.{◌≡◌, [], length};
+ghost use Rattle.std.proofs.Math.Nat.{le-add_right};
+ghost use Rattle.store.specs.Maps.{Ascending, place};
+ghost use Rattle.store.specs.Orders.{below};
+ghost use Rattle.store.proofs.Props.{ascending_prop};
+ghost use Rattle.rows.specs.Cells.{cell_count};
+ghost use Rattle.rows.specs.KeyRows.{Seeks};
 
+use crate::cells::Cells;
 use refusal::{Reason, Refusal};
-use std::cmp::Ordering;
 use store::entry::Entry;
 use store::key::Key;
 use store::store::{Store, WalkingStore};
 
 #[derive(Drop)]
-pub struct KeyRow<'a, K, V> {
-    cells: &'a mut [Entry<K, V>],
-    used: usize,
+pub struct KeyRow<'a, K: Key, V> {
+    cells: Cells<'a, Entry<K, V>>,
+    ghost ascends: { Ascending (below K.cmp) cells.items } by { ascending_prop (below K.cmp) cells.items },
 }
 
 impl<'a, K: Key, V: Copy> KeyRow<'a, K, V> {
     // An empty store of as many cells, whatever they held before.
     pub fn new(cells: &'a mut [Entry<K, V>]) -> Self
-        ensures empty { in_use result ≡ [] }
-        ensures room { cell_count result ≡ length cells.old }
-        ensures sound { Ascending K.Key.below (in_use result) }
+        ensures empty { result.cells.items ≡ [] }
+        ensures room { cell_count result.cells ≡ length cells.old }
     {
-        KeyRow { cells, used: 0 }
-    }
-
-    fn held(&self) -> &[Entry<K, V>]
-        ensures value { result.now ≡ in_use self.now }
-        ensures len { length result.now ≡ min self.now.used (cell_count self.now) }
-    {
-        let used = self.used.min(self.cells.len());
-        &self.cells[0..used]
-    }
-
-    // The place of the key, or else the place where it would stand: the first that is not below it.
-    fn seek(&self, key: &K) -> Result<usize, usize>
-        ensures { Seeks K.Key.below self.now key.now result }
-    {
-        let held = self.held();
-        for (i, entry) in held.iter().enumerate() {
-            match entry.key.compare(key) {
-                Ordering::Less => {}
-                Ordering::Equal => return Ok(i),
-                Ordering::Greater => return Err(i),
-            }
+        KeyRow {
+            cells: Cells::new(cells),
         }
-        Err(held.len())
+    }
+
+    // How many keys are below this one, which is the place where it stands or would stand.
+    fn place_of(&self, key: &K) -> usize
+        ensures { result ≡ place (below K.cmp) self.now.cells.items key.now }
+    {
+        let entries = self.cells.as_slice();
+        let first = entries.iter().position(|entry| entry.key >= *key);
+        first.unwrap_or(entries.len())
+    }
+
+    // The place of the key, or else the place where it would stand.
+    fn seek(&self, key: &K) -> Result<usize, usize>
+        ensures { Seeks (below K.cmp) self.now.cells.items key.now result }
+    {
+        let place = self.place_of(key);
+        match self.cells.as_slice().get(place) {
+            Some(entry) if entry.key == *key => Ok(place),
+            _ => Err(place),
+        }
     }
 }
 
@@ -54,67 +56,49 @@ impl<'a, K: Key, V: Copy> Store for KeyRow<'a, K, V> {
 
     type Value = V;
 
-    ghost entries = { in_use };
+    ghost entries = { λ s. s.cells.items };
 
-    ghost bound = { cell_count };
+    ghost bound = { λ s. cell_count s.cells };
 
-    ghost sound = { λ s. Ascending K.Key.below (in_use s) };
+    ghost ascends = { λ s. s.ascends };
 
-    ghost bounded = { λ s _. few_in_use s.used s.cells.now };
+    ghost bounded = { λ s. le-add_right (length s.cells.items) s.cells.free };
 
     fn capacity(&self) -> usize {
-        self.cells.len()
+        self.cells.capacity()
     }
 
     fn size(&self) -> usize {
-        self.held().len()
+        self.cells.as_slice().len()
     }
 
     fn find(&self, key: &K) -> Option<V> {
-        match self.seek(key) {
-            Ok(i) => Some(self.held()[i].value),
-            Err(_) => None,
-        }
+        let place = self.seek(key).ok()?;
+        Some(self.cells.as_slice()[place].value)
     }
 
     fn put(&mut self, key: K, value: V) -> Result<(), Refusal> {
         let entry = Entry { key, value };
         match self.seek(&key) {
-            Ok(i) => self.cells[i] = entry,
-            Err(i) => {
-                let size = self.held().len();
-                if size >= self.cells.len() {
-                    return Err(Reason::StoreFull.at(0));
-                }
-                self.cells.copy_within(i..size, i + 1);
-                self.cells[i] = entry;
-                self.used = size + 1;
-            }
+            Ok(place) => self.cells.set(place, entry),
+            Err(_) if self.cells.is_full() => return Err(Reason::StoreFull.at(0)),
+            Err(place) => self.cells.insert(place, entry),
         }
         Ok(())
     }
 
     fn take(&mut self, key: &K) -> bool {
-        match self.seek(key) {
-            Ok(i) => {
-                let size = self.held().len();
-                self.cells.copy_within(i + 1..size, i);
-                self.used = size - 1;
-                true
-            }
-            Err(_) => false,
-        }
+        let Ok(place) = self.seek(key) else {
+            return false;
+        };
+        self.cells.remove(place);
+        true
     }
 }
 
 impl<'a, K: Key, V: Copy> WalkingStore for KeyRow<'a, K, V> {
     fn next(&self, from: &K) -> Option<K> {
-        for entry in self.held() {
-            match entry.key.compare(from) {
-                Ordering::Less => {}
-                Ordering::Equal | Ordering::Greater => return Some(entry.key),
-            }
-        }
-        None
+        let place = self.place_of(from);
+        self.cells.as_slice().get(place).map(|entry| entry.key)
     }
 }

@@ -1,47 +1,39 @@
 // Entries in no order: a new one goes to the first free cell, and the last fills the gap of one that is taken.
-ghost use Rattle.std.specs.Prelude.{◌≡◌, min, [], length};
-ghost use Rattle.rows.specs.LooseRows.{in_use, cell_count, sorted, Distinct, Spots, few-sorted};
+ghost use Rattle.std.specs.Prelude.{◌≡◌, [], length};
+ghost use Rattle.store.specs.Orders.{below};
+ghost use Rattle.store.proofs.Keys.{key_order};
+ghost use Rattle.rows.specs.Cells.{cell_count};
+ghost use Rattle.rows.specs.LooseRows.{sorted, Distinct, Spots, distinct_prop, ascending_sorted, few_sorted};
 
+use crate::cells::Cells;
 use refusal::{Reason, Refusal};
-use std::cmp::Ordering;
 use store::entry::Entry;
 use store::key::Key;
 use store::store::Store;
 
 #[derive(Drop)]
-pub struct LooseRow<'a, K, V> {
-    cells: &'a mut [Entry<K, V>],
-    used: usize,
+pub struct LooseRow<'a, K: Key, V> {
+    cells: Cells<'a, Entry<K, V>>,
+    ghost distinct: { Distinct (below K.cmp) cells.items } by { distinct_prop (below K.cmp) cells.items },
 }
 
 impl<'a, K: Key, V: Copy> LooseRow<'a, K, V> {
     // An empty store of as many cells, whatever they held before.
     pub fn new(cells: &'a mut [Entry<K, V>]) -> Self
-        ensures empty { in_use result ≡ [] }
-        ensures room { cell_count result ≡ length cells.old }
-        ensures sound { Distinct K.Key.below (in_use result) }
+        ensures empty { result.cells.items ≡ [] }
+        ensures room { cell_count result.cells ≡ length cells.old }
     {
-        LooseRow { cells, used: 0 }
-    }
-
-    fn held(&self) -> &[Entry<K, V>]
-        ensures value { result.now ≡ in_use self.now }
-        ensures len { length result.now ≡ min self.now.used (cell_count self.now) }
-    {
-        let used = self.used.min(self.cells.len());
-        &self.cells[0..used]
-    }
-
-    // The first cell that has the key.
-    fn spot(&self, key: &K) -> Option<usize>
-        ensures { Spots K.Key.below self.now key.now result }
-    {
-        for (i, entry) in self.held().iter().enumerate() {
-            if let Ordering::Equal = entry.key.compare(key) {
-                return Some(i);
-            }
+        LooseRow {
+            cells: Cells::new(cells),
         }
-        None
+    }
+
+    // The place of the entry that has the key.
+    fn spot(&self, key: &K) -> Option<usize>
+        ensures { Spots (below K.cmp) self.now.cells.items key.now result }
+    {
+        let mut entries = self.cells.as_slice().iter();
+        entries.position(|entry| entry.key == *key)
     }
 }
 
@@ -50,56 +42,42 @@ impl<'a, K: Key, V: Copy> Store for LooseRow<'a, K, V> {
 
     type Value = V;
 
-    ghost entries = { λ s. sorted K.Key.below (in_use s) };
+    ghost entries = { λ s. sorted (below K.cmp) s.cells.items };
 
-    ghost bound = { cell_count };
+    ghost bound = { λ s. cell_count s.cells };
 
-    ghost sound = { λ s. Distinct K.Key.below (in_use s) };
+    ghost ascends = { λ s. ascending_sorted (key_order K.total K.one) s.cells.items };
 
-    ghost bounded = { λ s _. few-sorted K.Key.laws s.used s.cells.now };
+    ghost bounded = { λ s. few_sorted (key_order K.total K.one) s.cells };
 
     fn capacity(&self) -> usize {
-        self.cells.len()
+        self.cells.capacity()
     }
 
     fn size(&self) -> usize {
-        self.held().len()
+        self.cells.as_slice().len()
     }
 
     fn find(&self, key: &K) -> Option<V> {
-        match self.spot(key) {
-            Some(i) => Some(self.held()[i].value),
-            None => None,
-        }
+        let place = self.spot(key)?;
+        Some(self.cells.as_slice()[place].value)
     }
 
     fn put(&mut self, key: K, value: V) -> Result<(), Refusal> {
         let entry = Entry { key, value };
         match self.spot(&key) {
-            Some(i) => self.cells[i] = entry,
-            None => {
-                let size = self.held().len();
-                if size >= self.cells.len() {
-                    return Err(Reason::StoreFull.at(0));
-                }
-                self.cells[size] = entry;
-                self.used = size + 1;
-            }
+            Some(place) => self.cells.set(place, entry),
+            None if self.cells.is_full() => return Err(Reason::StoreFull.at(0)),
+            None => self.cells.push(entry),
         }
         Ok(())
     }
 
     fn take(&mut self, key: &K) -> bool {
-        match self.spot(key) {
-            Some(i) => {
-                let held = self.held();
-                let size = held.len();
-                let last = held[size - 1];
-                self.cells[i] = last;
-                self.used = size - 1;
-                true
-            }
-            None => false,
-        }
+        let Some(place) = self.spot(key) else {
+            return false;
+        };
+        self.cells.swap_remove(place);
+        true
     }
 }

@@ -1,10 +1,9 @@
 use Rattle.std.proofs.Common.{arith}
-use Rattle.std.proofs.lemmas.List.{get_or-take}
 use Rattle.store.proofs.Places.{lookup-held, lookup-missing}
 use Rattle.rows.proofs.key_row.KeyRowStore.find.Goals as goal
 
-pub returns-in-Ok : goal.returns-in-Ok
-returns-in-Ok g c = let e = c.in-Ok.ensures in grind (arith, lookup-held, get_or-take)
+pub returns-in_err-place : goal.returns-in_err-place
+returns-in_err-place g c = grind (arith, lookup-missing)
 
-pub returns-in-Err : goal.returns-in-Err
-returns-in-Err g c = let e = c.in-Err.ensures in grind (arith, lookup-missing)
+pub returns : goal.returns
+returns g c = grind (arith, lookup-held)

@@ -1,35 +1,27 @@
-use Rattle.std.proofs.Common.{◌≡◌, ◌-◌, min, true, false, length, take, sym, subst, arith, rules}
-use Rattle.store.specs.Maps.{removing, Ascending}
-use Rattle.store.proofs.Places.{removing-held, removing-missing}
+use Rattle.std.proofs.Common.{true, false, sym}
+use Rattle.store.specs.Orders.{below}
 use Rattle.store.proofs.Answers.{took}
-use Rattle.store.proofs.Laws.{ascending_removing}
-use Rattle.rows.proofs.Shifts.{shifted_down, take_least}
+use Rattle.store.proofs.Places.{removing-missing}
+use Rattle.store.proofs.Keys.{key_order}
+use Rattle.rows.proofs.KeyRows.{removed}
 use Rattle.rows.proofs.key_row.KeyRowStore.take.Goals as goal
 
-pub returns-in-Ok : goal.returns-in-Ok
-returns-in-Ok g c =
-    let below = g.K.Key.below in
-    let n = c.args.self.now.used in
-    let cs = c.args.self.now.cells.now in
+pub returns-in_default-clause-takes : goal.returns-in_default-clause-takes
+returns-in_default-clause-takes g c =
+    let es = c.args.self.now.cells.items in
     let k = c.args.key.now in
-    let f = c.in-Ok.ensures in
-    let m = length c.held-size.result.now in
-    let size : m ≡ min n (length cs) = c.held-size.ensures.len in
-    let e : take (m - 1) c.copy_within.new.self ≡ removing below (take n cs) k =
-    let u = shifted_down cs c.in-Ok.i m (omega arith) (omega arith) in
-    let t = take_least n cs in
-    let w = removing-held below (take n cs) k f.1 in
-    cc in
-    record {
-      room = search rules;
-      keeps = λ a. subst (Ascending below) (sym e) (ascending_removing g.K.Key.laws (take n cs) k a);
-      takes = λ a. took below (length cs) (take n cs) _ k true f.1 e;
-    }
+    let m = c.in_default.ensures.1 in
+    took (below g.K.Ord.cmp) es es k false m (sym (removing-missing (below g.K.Ord.cmp) es k m))
 
-pub returns-in-Err : goal.returns-in-Err
-returns-in-Err g c =
-    let f = c.in-Err.ensures in
-    let e = removing-missing g.K.Key.below _ c.args.key.now f.1 in
-    let n = c.args.self.now.used in
-    let cs = c.args.self.now.cells.now in
-    record { room = search rules; keeps = λ a. a; takes = λ a. took g.K.Key.below (length cs) (take n cs) (take n cs) c.args.key.now false f.1 (sym e) }
+pub invariant_of-self : goal.invariant_of-self
+invariant_of-self g c =
+    let o = key_order g.met.K.Ord.total g.met.K.Key.one in
+    let s = c.args.self.now in
+    record { ascends = (removed o s.cells.items c.remove.new.self.items c.args.key.now c.in-Ok.place s.ascends c.in-Ok.ensures c.remove.ensures.items).0 }
+
+pub returns-clause-takes : goal.returns-clause-takes
+returns-clause-takes g c =
+    let o = key_order g.met.K.Ord.total g.met.K.Key.one in
+    let s = c.args.self.now in
+    let r = removed o s.cells.items c.remove.new.self.items c.args.key.now c.in-Ok.place s.ascends c.in-Ok.ensures c.remove.ensures.items in
+    took (below g.K.Ord.cmp) s.cells.items c.remove.new.self.items c.args.key.now true c.in-Ok.ensures.1 r.1

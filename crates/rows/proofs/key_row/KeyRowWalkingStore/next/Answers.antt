@@ -1,20 +1,12 @@
-use Rattle.std.proofs.Common.{arith, rules}
-use Rattle.std.proofs.lemmas.List.{drop_more, drop_all}
+use Rattle.std.proofs.Common.{◌≡◌, None, Some, arith, rules, tests}
+use Rattle.std.specs.Option.{MatchOption}
+use Rattle.store.specs.Orders.{below}
+use Rattle.store.proofs.Places.{least_place, least_past}
 use Rattle.rows.proofs.key_row.KeyRowWalkingStore.next.Goals as goal
-
-pub returns-in-Equal : goal.returns-in-Equal
-returns-in-Equal g c =
-    let o = g.K.Key.laws in
-    let m = drop_more c.held-entry-items.result.now c.loop-entry.entry-index c.entry-item.result (search rules) in
-    grind arith
-
-pub loop-entry-preserved : goal.loop-entry-preserved
-loop-entry-preserved g c =
-    let m = drop_more c.held-entry-items.result.now c.loop-entry.entry-index c.entry-item.result (search rules) in
-    let e = c.in-Less.ensures in
-    grind arith
 
 pub returns : goal.returns
 returns g c =
-    let m = drop_all c.loop-entry.entry-index c.held-entry-items.result.now (search rules) in
+    let said : MatchOption c.get.result (c.map.result ≡ None) (λ x. c.map.result ≡ Some x.now.key) = search (rules, tests) in
+    let p = least_place (below g.K.Ord.cmp) c.args.self.now.cells.items c.args.from.now in
+    let q = least_past (below g.K.Ord.cmp) c.args.self.now.cells.items c.args.from.now in
     grind arith

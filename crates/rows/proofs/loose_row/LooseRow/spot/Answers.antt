@@ -1,25 +1,19 @@
-use Rattle.std.proofs.Common.{sym, ap, ◌∙◌, arith}
-use Rattle.std.proofs.lemmas.List.{get_or_read, drop_all}
-use Rattle.rows.proofs.Loose.{found_here, found_later, ranked_apart}
+use Rattle.std.proofs.Common.{Bool, ◌∙◌, rules, tests}
+use Rattle.std.proofs.lemmas.Iterator.{YieldsList-from_slice}
+use Rattle.std.proofs.lemmas.Iterator.Search.{position_from_yields_List}
+use Rattle.store.specs.declared.entry.Entry.{Entry}
+use Rattle.store.proofs.Keys.{key_order, same_key, other_key}
+use Rattle.rows.proofs.Loose.{spotted}
 use Rattle.rows.proofs.loose_row.LooseRow.spot.Goals as goal
-
-pub returns-in-Equal : goal.returns-in-Equal
-returns-in-Equal g c =
-    let hs = c.held-entry-items.result.now in
-    let x = c.entry-item.result in
-    let same = get_or_read hs c.loop-i.i x c.loop-i-test.true c.entry-item.is in
-    let key = c.in-Equal.ensures in
-    let here = found_here g.K.Key.laws hs c.loop-i.i c.args.key.now x c.loop-i-test.true (ap (λ y. y.key) (sym c.entry-item.is) ∙ key) in
-    (omega arith, omega arith, λ d. let e = same d in cc, λ d. let e = same d in cc)
-
-pub loop-i-preserved : goal.loop-i-preserved
-loop-i-preserved g c =
-    let hs = c.held-entry-items.result.now in
-    let x = c.entry-item.result in
-    let ne = ranked_apart g.K.Key.laws x.key c.args.key.now c.compare.result c.compare.ensures c.in_default.not-Equal in
-    c.loop-i.invariant ∙ found_later g.K.Key.laws hs c.loop-i.i c.args.key.now x c.loop-i-test.true (λ e. ne (e ∙ ap (λ y. y.key) (sym c.entry-item.is)))
 
 pub returns : goal.returns
 returns g c =
-    let m = drop_all c.loop-i.i c.held-entry-items.result.now c.loop-i-test.false in
-    grind arith
+    let es = c.args.self.now.cells.items in
+    let k = c.args.key.now in
+    let total = g.met.K.Ord.total in
+    let one = g.met.K.Key.one in
+    let eq = g.K.PartialEq.eq in
+    let same = g.met.K.Ord.matches_eq in
+    let test : Entry g.row.K.Denot g.row.V.Denot → Bool = λ e. eq e.key k in
+    let ran = position_from_yields_List test _ _ c.position.result c.position.ensures.ran (YieldsList-from_slice es (c.iter-entries.ensures.rest ∙ c.as_slice.ensures)) (λ x b q k. search (rules, tests)) in
+    spotted (key_order total one) k test (λ e. same_key total one eq same e.key k) (λ e. other_key total one eq same e.key k) es c.position.result ran

@@ -1,58 +1,45 @@
-use Rattle.std.proofs.Common.{◌≡◌, ◌+◌, length, take, set, refl, ap, ◌∙◌, arith, length-set, length-take, rules}
-use lib.Seq.{take-set-lt}
-use Rattle.store.specs.Maps.{entry, adding}
+use Rattle.std.proofs.Common.{refl, arith}
+use Rattle.store.specs.Orders.{below}
 use Rattle.store.proofs.Answers.{put_held, put_new, put_refused}
-use Rattle.rows.specs.LooseRows.{sorted, Distinct, few}
-use Rattle.rows.proofs.Loose.{held_found, missing_found, full, replaced, pushed, distinct_added}
+use Rattle.store.proofs.Keys.{key_order}
+use Rattle.rows.specs.Cells.{cell_count}
+use Rattle.rows.specs.LooseRows.{sorted, few}
+use Rattle.rows.proofs.Loose.{missing_found, full, spot_held, value_set, entry_pushed}
 use Rattle.rows.proofs.loose_row.LooseRowStore.put.Goals as goal
 
-pub returns-then-size-self : goal.returns-then-size-self
-returns-then-size-self g c =
-    let below = g.K.Key.below in
-    let n = c.args.self.now.used in
-    let cs = c.args.self.now.cells.now in
-    let k = c.args.key in
-    let es = sorted below (take n cs) in
-    let m = missing_found below es k c.in-None.ensures in
-    record {
-      room = search rules;
-      keeps = λ u. u;
-      puts = λ u. put_refused below (length cs) es es k c.args.value c.at.result m (omega (arith, full g.K.Key.laws (take n cs) u, length-take n cs, c.held-size.ensures.len)) c.at.ensures refl;
-    }
+pub invariant_of-self : goal.invariant_of-self
+invariant_of-self g c =
+    let o = key_order g.met.K.Ord.total g.met.K.Key.one in
+    let s = c.args.self.now in
+    record { distinct = (value_set o s.cells.items c.set.new.self.items c.args.key s.distinct c.in-Some.place c.args.value c.in-Some.ensures c.set.ensures.items).0 }
 
-pub returns-in-Some : goal.returns-in-Some
-returns-in-Some g c =
-    let below = g.K.Key.below in
-    let n = c.args.self.now.used in
-    let cs = c.args.self.now.cells.now in
-    let k = c.args.key in
-    let v = c.args.value in
-    let i = c.in-Some.i in
-    let es = sorted below (take n cs) in
-    let f = c.in-Some.ensures in
-    let h = held_found below es k _ (f.3 (entry k v)) in
-    let e : Distinct below (take n cs) → sorted below (take n (set cs i (entry k v))) ≡ adding below es k v =
-    λ u. ap (sorted below) (take-set-lt n cs i (entry k v) f.0) ∙ replaced g.K.Key.laws (take n cs) i k v u (simp length-take (omega arith)) (f.2 (entry k v)) in
-    record {
-      room = search rules;
-      keeps = λ u. distinct_added g.K.Key.laws (take n cs) (take n (set cs i (entry k v))) k v u (e u) (grind (arith, length-take, length-set));
-      puts = λ u. put_held below (length cs) es _ k v h (e u);
-    }
+pub invariant_of-self-in-None-2 : goal.invariant_of-self-in-None-2
+invariant_of-self-in-None-2 g c =
+    let o = key_order g.met.K.Ord.total g.met.K.Key.one in
+    let s = c.args.self.now in
+    record { distinct = (entry_pushed o s.cells.items c.push.new.self.items c.args.key s.distinct c.args.value c.in-None.ensures c.push.ensures.items).0 }
 
-pub returns-else-size-self : goal.returns-else-size-self
-returns-else-size-self g c =
-    let below = g.K.Key.below in
-    let n = c.args.self.now.used in
-    let cs = c.args.self.now.cells.now in
-    let k = c.args.key in
-    let v = c.args.value in
-    let es = sorted below (take n cs) in
-    let size : length c.held-size.result.now ≡ n = omega (arith, c.held-size.ensures.len) in
-    let m = missing_found below es k c.in-None.ensures in
-    let fs = take (length c.held-size.result.now + 1) (set cs (length c.held-size.result.now) (entry k v)) in
-    let e : sorted below fs ≡ adding below es k v = let p = pushed g.K.Key.laws cs n k v (omega arith) m in cc in
-    record {
-      room = search rules;
-      keeps = λ u. distinct_added g.K.Key.laws (take n cs) fs k v u e (grind (arith, length-take, length-set));
-      puts = λ u. put_new below (length cs) es _ k v (omega (arith, few g.K.Key.laws (take n cs), length-take n cs)) e;
-    }
+pub returns-in-None-clause-puts : goal.returns-in-None-clause-puts
+returns-in-None-clause-puts g c =
+    let o = key_order g.met.K.Ord.total g.met.K.Key.one in
+    let s = c.args.self.now in
+    let es = sorted (below g.K.Ord.cmp) s.cells.items in
+    let n = full o s.cells.items s.distinct in
+    put_refused (below g.K.Ord.cmp) es es c.args.key (cell_count s.cells) c.args.value c.at.result (missing_found (below g.K.Ord.cmp) es c.args.key c.in-None.ensures) (grind (arith, c.if-is_full.ensures)) c.at.ensures refl
+
+pub returns-in-Some-clause-puts : goal.returns-in-Some-clause-puts
+returns-in-Some-clause-puts g c =
+    let o = key_order g.met.K.Ord.total g.met.K.Key.one in
+    let s = c.args.self.now in
+    let es = sorted (below g.K.Ord.cmp) s.cells.items in
+    let r = value_set o s.cells.items c.set.new.self.items c.args.key s.distinct c.in-Some.place c.args.value c.in-Some.ensures c.set.ensures.items in
+    put_held (below g.K.Ord.cmp) es _ c.args.key (cell_count s.cells) c.args.value (spot_held o s.cells.items c.set.new.self.items c.args.key s.distinct c.in-Some.place c.in-Some.ensures) r.1
+
+pub returns-in-None-2-clause-puts : goal.returns-in-None-2-clause-puts
+returns-in-None-2-clause-puts g c =
+    let o = key_order g.met.K.Ord.total g.met.K.Key.one in
+    let s = c.args.self.now in
+    let es = sorted (below g.K.Ord.cmp) s.cells.items in
+    let r = entry_pushed o s.cells.items c.push.new.self.items c.args.key s.distinct c.args.value c.in-None.ensures c.push.ensures.items in
+    let n = few o s.cells.items in
+    put_new (below g.K.Ord.cmp) es _ c.args.key (cell_count s.cells) c.args.value (grind (arith, c.if-is_full.ensures)) r.1
