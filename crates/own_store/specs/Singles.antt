@@ -1,20 +1,20 @@
 -- What a single store stands for.
-use Rattle.std.specs.Prelude.{◌≤◌, List, [], ◌∷◌, length, Some, None, Option}
+use Rattle.std.specs.Prelude.{◌≤◌, Bool, List, length, Some, None, Option}
+use Rattle.std.specs.Option.{option_to_list}
 use Rattle.std.proofs.Common.{lit≤}
 use Rattle.store.specs.declared.entry.Entry.{Entry}
+use Rattle.store.specs.Maps.{Ascending}
 use Rattle.own_store.specs.declared.single.Single.{Single}
-
-abbrev pub listed : {X : Type 0} → Option X → List X
-listed None = []
-listed (Some x) = x ∷ []
 
 -- no entry, or one
 abbrev pub content : {K V : Type 0} → Single K V → List (Entry K V)
-content s = listed s.entry
+content s = option_to_list s.entry
 
-few : {X : Type 0} (o : Option X) → length (listed o) ≤ 1
-few None = lit≤ tt
-few (Some x) = lit≤ tt
+module _ {K V : Type 0} where
+  pub one_ascends : (below : K → K → Bool) (held : Option (Entry K V)) → Ascending below (option_to_list held)
+  one_ascends below None = tt
+  one_ascends below (Some e) = (tt, tt)
 
-pub one_at_most : {K V : Type 0} (s : Single K V) → length (content s) ≤ 1
-one_at_most s = few s.entry
+  pub one_at_most : (held : Option (Entry K V)) → length (option_to_list held) ≤ 1
+  one_at_most None = lit≤ tt
+  one_at_most (Some e) = lit≤ tt

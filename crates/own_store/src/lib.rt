@@ -2,5 +2,4 @@
 #![tactic(auto)]
 
 pub mod number;
-pub mod numbers;
 pub mod single;

@@ -1,9 +1,9 @@
 // A store that holds at most one entry.
 ghost use Rattle.std.specs.Prelude.{◌≡◌, []};
-ghost use Rattle.own_store.specs.Singles.{content, one_at_most};
+ghost use Rattle.store.specs.Orders.{below};
+ghost use Rattle.own_store.specs.Singles.{content, one_ascends, one_at_most};
 
 use refusal::{Reason, Refusal};
-use std::cmp::Ordering;
 use store::entry::Entry;
 use store::key::Key;
 use store::store::{Store, WalkingStore};
@@ -30,65 +30,41 @@ impl<K: Key + Drop, V: Copy + Drop> Store for Single<K, V> {
 
     ghost bound = { λ _. 1 };
 
-    // every value of the type stands for a map
-    ghost sound = { λ _. Unit {0} };
-
-    ghost bounded = { λ s _. one_at_most s };
-
     fn capacity(&self) -> usize {
         1
     }
 
     fn size(&self) -> usize {
-        match self.entry {
-            Some(_) => 1,
-            None => 0,
-        }
+        usize::from(self.entry.is_some())
     }
 
     fn find(&self, key: &K) -> Option<V> {
-        let Some(entry) = self.entry else {
-            return None;
-        };
-        match entry.key.compare(key) {
-            Ordering::Equal => Some(entry.value),
-            _ => None,
-        }
+        self.entry
+            .filter(|entry| entry.key == *key)
+            .map(|entry| entry.value)
     }
 
     fn put(&mut self, key: K, value: V) -> Result<(), Refusal> {
-        if let Some(entry) = self.entry {
-            match entry.key.compare(&key) {
-                Ordering::Equal => {}
-                _ => return Err(Reason::StoreFull.at(0)),
-            }
+        if self.entry.is_some_and(|entry| entry.key != key) {
+            return Err(Reason::StoreFull.at(0));
         }
         self.entry = Some(Entry { key, value });
         Ok(())
     }
 
     fn take(&mut self, key: &K) -> bool {
-        let Some(entry) = self.entry else {
-            return false;
-        };
-        match entry.key.compare(key) {
-            Ordering::Equal => {
-                self.entry = None;
-                true
-            }
-            _ => false,
-        }
+        self.entry.take_if(|entry| entry.key == *key).is_some()
     }
+
+    ghost ascends = { λ s. one_ascends (below K.cmp) s.entry };
+
+    ghost bounded = { λ s. one_at_most s.entry };
 }
 
 impl<K: Key + Drop, V: Copy + Drop> WalkingStore for Single<K, V> {
     fn next(&self, from: &K) -> Option<K> {
-        let Some(entry) = self.entry else {
-            return None;
-        };
-        match entry.key.compare(from) {
-            Ordering::Less => None,
-            _ => Some(entry.key),
-        }
+        self.entry
+            .filter(|entry| entry.key >= *from)
+            .map(|entry| entry.key)
     }
 }
