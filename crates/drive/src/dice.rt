@@ -9,9 +9,9 @@ impl Dice {
         Dice { state: seed }
     }
 
-    // A number below 256.
+    // A number below 256: the second byte, since the last ones repeat soon.
     pub(crate) fn roll(&mut self) -> u8 {
         self.state = self.state.wrapping_mul(1664525).wrapping_add(1013904223);
-        (self.state >> 16 & 0xff) as u8
+        self.state.to_be_bytes()[1]
     }
 }

@@ -1,4 +1,4 @@
-// What is put into a new row is found again: nothing is supposed of the row, since `new` shows that it is sound.
+// What is put into a new row is found again: nothing is supposed of the row but that it has a cell.
 ghost use Rattle.std.specs.Prelude.{◌≡◌, ◌<◌, [], length, Some};
 
 use own_store::number::Number;
@@ -7,14 +7,12 @@ use rows::loose_row::LooseRow;
 use store::entry::Entry;
 use store::store::Store;
 
-// The value that a sound and empty store with room finds again.
+// The value that an empty store with room finds again.
 fn found<S: Store<Key = Number, Value = u8>>(store: &mut S, key: Number, value: u8) -> Option<u8>
-    ensures { S.Store.sound store.old → S.Store.entries store.old ≡ [] → 0 < S.Store.bound store.old → result ≡ Some value }
+    ensures { S.entries store.old ≡ [] → 0 < S.bound store.old → result ≡ Some value }
 {
-    match store.put(key, value) {
-        Ok(()) => store.find(&key),
-        Err(_) => None,
-    }
+    store.put(key, value).ok()?;
+    store.find(&key)
 }
 
 pub(crate) fn found_in_key_row(
@@ -24,8 +22,7 @@ pub(crate) fn found_in_key_row(
 ) -> Option<u8>
     ensures { 0 < length cells.old → result ≡ Some value }
 {
-    let mut row = KeyRow::new(cells);
-    found(&mut row, key, value)
+    found(&mut KeyRow::new(cells), key, value)
 }
 
 pub(crate) fn found_in_loose_row(
@@ -35,6 +32,5 @@ pub(crate) fn found_in_loose_row(
 ) -> Option<u8>
     ensures { 0 < length cells.old → result ≡ Some value }
 {
-    let mut row = LooseRow::new(cells);
-    found(&mut row, key, value)
+    found(&mut LooseRow::new(cells), key, value)
 }

@@ -4,68 +4,63 @@
 mod dice;
 mod found;
 mod model;
-mod steps;
+mod tally;
+mod trial;
 
-use crate::dice::Dice;
 use crate::found::{found_in_key_row, found_in_loose_row};
-use crate::model::Model;
-use crate::steps::{Tally, drive, drive_walk, drive_walking};
+use crate::tally::Tally;
+use crate::trial::Trial;
 use own_store::number::Number;
 use own_store::single::Single;
 use rows::key_row::KeyRow;
 use rows::loose_row::LooseRow;
 use std::io;
 use store::entry::Entry;
+use store::store::Store;
 
-fn tell(rt: &HostRuntime, make: &str, cells: usize, tally: Tally) -> io::Result<()> {
-    let answers = tally.answers;
-    let refused = tally.refused;
-    let differ = tally.differ;
-    println!(rt; "{make} of {cells}: {answers} answers, {refused} refused, {differ} differ")
+// The cells that a row is lent: at most 64.
+const SIZES: [usize; 6] = [0, 1, 2, 7, 30, 64];
+
+fn cells() -> [Entry<Number, u8>; 64] {
+    let key = Number { value: 9 };
+    [Entry { key, value: 9 }; 64]
+}
+
+fn tell(rt: &HostRuntime, what: &str, size: usize, tally: Tally) -> io::Result<()> {
+    println!(rt; "{what} of {size}: {tally}")
+}
+
+// Runs the steps on one make of store, and tells what came of it.
+fn drive<S: Store<Key = Number, Value = u8> + Drop>(
+    rt: &HostRuntime,
+    make: &str,
+    size: usize,
+    store: S,
+) -> io::Result<Trial<S>> {
+    let mut trial = Trial::new(rt.alloc(), store, size);
+    let tally = trial.run()?;
+    tell(rt, make, size, tally)?;
+    Ok(trial)
 }
 
 fn main(rt: HostRuntime) -> io::Result<()> {
-    for cells in [0usize, 1, 2, 7, 30, 64] {
-        let mut row = [Entry {
-            key: Number { value: 9 },
-            value: 9u8,
-        }; 64];
-        let mut ordered = KeyRow::new(&mut row[0..cells]);
-        let mut dice = Dice::new(1);
-        let mut model = Model::new(cells);
-        let tally = drive(&mut ordered, &mut model, &mut dice);
-        tell(&rt, "key row", cells, tally)?;
-        let tally = drive_walking(&ordered, &model);
-        tell(&rt, "next of a key row", cells, tally)?;
-        let tally = drive_walk(&ordered, &model);
-        tell(&rt, "walk of a key row", cells, tally)?;
+    for size in SIZES {
+        let mut cells = cells();
+        let trial = drive(&rt, "key row", size, KeyRow::new(&mut cells[..size]))?;
+        tell(&rt, "next of a key row", size, trial.ask_next())?;
+        tell(&rt, "walk of a key row", size, trial.walk())?;
     }
-    for cells in [0usize, 1, 2, 7, 30, 64] {
-        let mut row = [Entry {
-            key: Number { value: 9 },
-            value: 9u8,
-        }; 64];
-        let mut loose = LooseRow::new(&mut row[0..cells]);
-        let mut dice = Dice::new(1);
-        let mut model = Model::new(cells);
-        let tally = drive(&mut loose, &mut model, &mut dice);
-        tell(&rt, "loose row", cells, tally)?;
+    for size in SIZES {
+        let mut cells = cells();
+        drive(&rt, "loose row", size, LooseRow::new(&mut cells[..size]))?;
     }
-    let mut single = Single::new();
-    let mut dice = Dice::new(1);
-    let mut model = Model::new(1);
-    let tally = drive(&mut single, &mut model, &mut dice);
-    tell(&rt, "single", 1, tally)?;
-    let tally = drive_walking(&single, &model);
-    tell(&rt, "next of a single", 1, tally)?;
-    let mut row = [Entry {
-        key: Number { value: 9 },
-        value: 9u8,
-    }; 64];
-    if let Some(value) = found_in_key_row(&mut row, Number { value: 200 }, 7) {
+    let trial = drive(&rt, "single", 1, Single::new())?;
+    tell(&rt, "next of a single", 1, trial.ask_next())?;
+    let key = Number { value: 200 };
+    if let Some(value) = found_in_key_row(&mut cells(), key, 7) {
         println!(rt; "a new key row finds {value} again")?;
     }
-    if let Some(value) = found_in_loose_row(&mut row, Number { value: 200 }, 8) {
+    if let Some(value) = found_in_loose_row(&mut cells(), key, 8) {
         println!(rt; "a new loose row finds {value} again")?;
     }
     Ok(())

@@ -1,16 +1,19 @@
-// A simple model of a store: what each of 64 keys has, and how many have something.
+// A simple model of a store: a map of the standard library, and how many keys it may hold.
+use own_store::number::Number;
+use refusal::{Reason, Refusal};
+use std::alloc::{AllocError, Global};
+use std::collections::BTreeMap;
+
 #[derive(Drop)]
 pub(crate) struct Model {
-    values: [Option<u8>; 64],
-    held: usize,
+    entries: BTreeMap<Number, u8>,
     capacity: usize,
 }
 
 impl Model {
-    pub(crate) fn new(capacity: usize) -> Model {
+    pub(crate) fn new(alloc: Global, capacity: usize) -> Model {
         Model {
-            values: [None; 64],
-            held: 0,
+            entries: BTreeMap::new(alloc),
             capacity,
         }
     }
@@ -20,47 +23,32 @@ impl Model {
     }
 
     pub(crate) fn size(&self) -> usize {
-        self.held
+        self.entries.len()
     }
 
-    // The least key that has something, from the given one on.
-    pub(crate) fn next(&self, from: u8) -> Option<u8> {
-        for key in from..64 {
-            if self.find(key).is_some() {
-                return Some(key);
-            }
-        }
-        None
+    pub(crate) fn find(&self, key: Number) -> Option<u8> {
+        self.entries.get(&key).copied()
     }
 
-    pub(crate) fn find(&self, key: u8) -> Option<u8> {
-        if key < 64 {
-            return self.values[key as usize];
-        }
-        None
+    // The least key that is held, from the given one on.
+    pub(crate) fn next(&self, from: Number) -> Option<Number> {
+        self.entries.range(from..).next().map(|(key, _)| *key)
     }
 
-    // Whether the value was accepted.
-    pub(crate) fn put(&mut self, key: u8, value: u8) -> bool {
-        if key >= 64 {
-            return false;
+    // What a store has to answer, where there is memory for the entry.
+    pub(crate) fn put(
+        &mut self,
+        key: Number,
+        value: u8,
+    ) -> Result<Result<(), Refusal>, AllocError> {
+        if self.entries.len() >= self.capacity && !self.entries.contains_key(&key) {
+            return Ok(Err(Reason::StoreFull.at(0)));
         }
-        if self.values[key as usize].is_none() {
-            if self.held >= self.capacity {
-                return false;
-            }
-            self.held = self.held.saturating_add(1);
-        }
-        self.values[key as usize] = Some(value);
-        true
+        self.entries.insert(key, value)?;
+        Ok(Ok(()))
     }
 
-    pub(crate) fn take(&mut self, key: u8) -> bool {
-        if key >= 64 || self.values[key as usize].is_none() {
-            return false;
-        }
-        self.values[key as usize] = None;
-        self.held = self.held.saturating_sub(1);
-        true
+    pub(crate) fn take(&mut self, key: Number) -> bool {
+        self.entries.remove(&key).is_some()
     }
 }

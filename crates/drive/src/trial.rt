@@ -1,0 +1,118 @@
+// A store and a model that take the same steps.
+use crate::dice::Dice;
+use crate::model::Model;
+use crate::tally::Tally;
+use own_store::number::Number;
+use std::alloc::{AllocError, Global};
+use store::key::Key;
+use store::store::{Store, WalkingStore};
+use store::walk::keys_from;
+
+enum Step {
+    Put,
+    Take,
+    Find,
+}
+
+impl From<u8> for Step {
+    fn from(roll: u8) -> Step {
+        match roll % 20 {
+            0..=9 => Step::Put,
+            10..=13 => Step::Take,
+            _ => Step::Find,
+        }
+    }
+}
+
+#[derive(Drop)]
+pub(crate) struct Trial<S: Drop> {
+    store: S,
+    model: Model,
+    dice: Dice,
+    tally: Tally,
+}
+
+impl<S: Store<Key = Number, Value = u8> + Drop> Trial<S> {
+    // The store must be empty, and have this capacity.
+    pub(crate) fn new(alloc: Global, store: S, capacity: usize) -> Trial<S> {
+        Trial {
+            store,
+            model: Model::new(alloc, capacity),
+            dice: Dice::new(1),
+            tally: Tally::default(),
+        }
+    }
+
+    // Two thousand steps.
+    pub(crate) fn run(&mut self) -> Result<Tally, AllocError> {
+        self.compare_capacities();
+        for _step in 0..2000 {
+            self.step()?;
+        }
+        self.compare_capacities();
+        Ok(self.tally)
+    }
+
+    fn compare_capacities(&mut self) {
+        self.tally
+            .compare(self.store.capacity(), self.model.capacity());
+    }
+
+    // A put, a take or a find, and then the size.
+    fn step(&mut self) -> Result<(), AllocError> {
+        let step = Step::from(self.dice.roll());
+        let key = Number {
+            value: self.dice.roll() % 64,
+        };
+        let value = self.dice.roll();
+        match step {
+            Step::Put => self.put(key, value)?,
+            Step::Take => {
+                let taken = self.store.take(&key);
+                self.tally.compare(taken, self.model.take(key));
+            }
+            Step::Find => {
+                let found = self.store.find(&key);
+                self.tally.compare(found, self.model.find(key));
+            }
+        }
+        self.tally.compare(self.store.size(), self.model.size());
+        Ok(())
+    }
+
+    fn put(&mut self, key: Number, value: u8) -> Result<(), AllocError> {
+        let answer = self.store.put(key, value);
+        if answer.is_err() {
+            self.tally.refuse();
+        }
+        self.tally.compare(answer, self.model.put(key, value)?);
+        Ok(())
+    }
+}
+
+impl<S: WalkingStore + Store<Key = Number, Value = u8> + Drop> Trial<S> {
+    // The question for the next key, from before the first to past the last.
+    pub(crate) fn ask_next(&self) -> Tally {
+        let mut tally = Tally::default();
+        for value in 0..=255u8 {
+            let from = Number { value };
+            tally.compare(self.store.next(&from), self.model.next(from));
+        }
+        tally
+    }
+
+    // A walk over all keys: each key of the model is met once, in order, and no other.
+    pub(crate) fn walk(&self) -> Tally {
+        let mut tally = Tally::default();
+        let mut places = [Number { value: 0 }; 64];
+        let met = keys_from(&self.store, Number { value: 0 }, &mut places);
+        tally.compare(met, self.model.size());
+        let mut next = Some(Number { value: 0 });
+        for key in &places[..met] {
+            let wanted = next.and_then(|from| self.model.next(from));
+            tally.compare(Some(*key), wanted);
+            next = key.successor();
+        }
+        tally
+    }
+}
