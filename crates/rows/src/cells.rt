@@ -63,8 +63,7 @@ impl<'a, T: Copy> Cells<'a, T> {
         ensures items { self.new.items ≡ self.old.items ++ item ∷ [] }
         ensures room { cell_count self.new ≡ cell_count self.old }
     {
-        self.cells[self.used] = item;
-        self.used += 1;
+        self.insert(self.used, item);
     }
 
     // The items behind it move one cell up.
