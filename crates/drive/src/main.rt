@@ -1,4 +1,4 @@
-// Drives each make of store and a simple model through the same steps, and counts the answers that differ.
+// Drives each make of store and a simple model of plain numbers through the same steps, and counts the answers that differ.
 #![tactic(auto)]
 
 mod dice;
@@ -18,12 +18,14 @@ use std::io;
 use store::entry::Entry;
 use store::store::Store;
 
-// The cells that a row is lent: at most 64.
-const SIZES: [usize; 6] = [0, 1, 2, 7, 30, 64];
+const CELLS: usize = 64;
 
-fn cells() -> [Entry<Number, u8>; 64] {
+// How many of the cells a row is lent.
+const SIZES: [usize; 6] = [0, 1, 2, 7, 30, CELLS];
+
+fn cells() -> [Entry<Number, u8>; CELLS] {
     let key = Number { value: 9 };
-    [Entry { key, value: 9 }; 64]
+    [Entry { key, value: 9 }; CELLS]
 }
 
 fn tell(rt: &HostRuntime, what: &str, size: usize, tally: Tally) -> io::Result<()> {

@@ -1,12 +1,15 @@
-// A simple model of a store: a map of the standard library, and how many keys it may hold.
-use own_store::number::Number;
-use refusal::{Reason, Refusal};
+// A simple model of a store over plain numbers: a map of the standard library, and how many keys it may hold.
 use std::alloc::{AllocError, Global};
 use std::collections::BTreeMap;
+use std::collections::btree_map::Keys;
+
+// There is no room for a new key.
+#[derive(Clone, Copy, PartialEq, Eq, Debug)]
+pub(crate) struct NoRoom;
 
 #[derive(Drop)]
 pub(crate) struct Model {
-    entries: BTreeMap<Number, u8>,
+    entries: BTreeMap<u8, u8>,
     capacity: usize,
 }
 
@@ -26,29 +29,29 @@ impl Model {
         self.entries.len()
     }
 
-    pub(crate) fn find(&self, key: Number) -> Option<u8> {
+    pub(crate) fn keys(&self) -> Keys<'_, u8, u8> {
+        self.entries.keys()
+    }
+
+    pub(crate) fn find(&self, key: u8) -> Option<u8> {
         self.entries.get(&key).copied()
     }
 
     // The least key that is held, from the given one on.
-    pub(crate) fn next(&self, from: Number) -> Option<Number> {
+    pub(crate) fn next(&self, from: u8) -> Option<u8> {
         self.entries.range(from..).next().map(|(key, _)| *key)
     }
 
-    // What a store has to answer, where there is memory for the entry.
-    pub(crate) fn put(
-        &mut self,
-        key: Number,
-        value: u8,
-    ) -> Result<Result<(), Refusal>, AllocError> {
+    // Whether there is room, where there is memory for the entry.
+    pub(crate) fn put(&mut self, key: u8, value: u8) -> Result<Result<(), NoRoom>, AllocError> {
         if self.entries.len() >= self.capacity && !self.entries.contains_key(&key) {
-            return Ok(Err(Reason::StoreFull.at(0)));
+            return Ok(Err(NoRoom));
         }
         self.entries.insert(key, value)?;
         Ok(Ok(()))
     }
 
-    pub(crate) fn take(&mut self, key: Number) -> bool {
+    pub(crate) fn take(&mut self, key: u8) -> bool {
         self.entries.remove(&key).is_some()
     }
 }

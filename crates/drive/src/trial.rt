@@ -4,7 +4,6 @@ use crate::model::Model;
 use crate::tally::Tally;
 use own_store::number::Number;
 use std::alloc::{AllocError, Global};
-use store::key::Key;
 use store::store::{Store, WalkingStore};
 use store::walk::keys_from;
 
@@ -14,8 +13,8 @@ enum Step {
     Find,
 }
 
-impl From<u8> for Step {
-    fn from(roll: u8) -> Step {
+impl Step {
+    fn drawn(roll: u8) -> Step {
         match roll % 20 {
             0..=9 => Step::Put,
             10..=13 => Step::Take,
@@ -60,19 +59,17 @@ impl<S: Store<Key = Number, Value = u8> + Drop> Trial<S> {
 
     // A put, a take or a find, and then the size.
     fn step(&mut self) -> Result<(), AllocError> {
-        let step = Step::from(self.dice.roll());
-        let key = Number {
-            value: self.dice.roll() % 64,
-        };
+        let step = Step::drawn(self.dice.roll());
+        let key = self.dice.roll() % 64;
         let value = self.dice.roll();
         match step {
             Step::Put => self.put(key, value)?,
             Step::Take => {
-                let taken = self.store.take(&key);
+                let taken = self.store.take(&Number { value: key });
                 self.tally.compare(taken, self.model.take(key));
             }
             Step::Find => {
-                let found = self.store.find(&key);
+                let found = self.store.find(&Number { value: key });
                 self.tally.compare(found, self.model.find(key));
             }
         }
@@ -80,12 +77,17 @@ impl<S: Store<Key = Number, Value = u8> + Drop> Trial<S> {
         Ok(())
     }
 
-    fn put(&mut self, key: Number, value: u8) -> Result<(), AllocError> {
-        let answer = self.store.put(key, value);
+    // A store that has no room refuses with number 16 at line 0.
+    fn put(&mut self, key: u8, value: u8) -> Result<(), AllocError> {
+        let answer = self.store.put(Number { value: key }, value);
+        let wanted = self.model.put(key, value)?;
         if answer.is_err() {
             self.tally.refuse();
         }
-        self.tally.compare(answer, self.model.put(key, value)?);
+        self.tally.compare(
+            answer.map_err(|refusal| (refusal.reason.number(), refusal.line)),
+            wanted.map_err(|_| (16, 0)),
+        );
         Ok(())
     }
 }
@@ -94,9 +96,9 @@ impl<S: WalkingStore + Store<Key = Number, Value = u8> + Drop> Trial<S> {
     // The question for the next key, from before the first to past the last.
     pub(crate) fn ask_next(&self) -> Tally {
         let mut tally = Tally::default();
-        for value in 0..=255u8 {
-            let from = Number { value };
-            tally.compare(self.store.next(&from), self.model.next(from));
+        for from in 0..=255u8 {
+            let next = self.store.next(&Number { value: from });
+            tally.compare(next.map(|key| key.value), self.model.next(from));
         }
         tally
     }
@@ -107,11 +109,8 @@ impl<S: WalkingStore + Store<Key = Number, Value = u8> + Drop> Trial<S> {
         let mut places = [Number { value: 0 }; 64];
         let met = keys_from(&self.store, Number { value: 0 }, &mut places);
         tally.compare(met, self.model.size());
-        let mut next = Some(Number { value: 0 });
-        for key in &places[..met] {
-            let wanted = next.and_then(|from| self.model.next(from));
-            tally.compare(Some(*key), wanted);
-            next = key.successor();
+        for (key, wanted) in places[..met].iter().zip(self.model.keys()) {
+            tally.compare(key.value, *wanted);
         }
         tally
     }

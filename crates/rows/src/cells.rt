@@ -54,6 +54,7 @@ impl<'a, T: Copy> Cells<'a, T> {
         ensures items { self.new.items ≡ slice_set self.old.items index item }
         ensures room { cell_count self.new ≡ cell_count self.old }
     {
+        // Borrowed first, so that the index is known to be in bounds.
         let cells = &mut self.cells;
         cells[index] = item;
     }

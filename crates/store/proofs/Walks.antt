@@ -1,6 +1,6 @@
 -- By repeated questions one meets every key once, in order.
 use Rattle.std.proofs.Common.{◌≡◌, ℕ, ◌+◌, ◌-◌, ◌<◌, ◌≤◌, min, Bool, true, List, [], ◌∷◌, ◌++◌, length, get_or, take, drop, set, Some, None, Option, sym, refl, ap, ◌∙◌, subst, ⊎_elim, arith, length-drop}
-use Rattle.std.proofs.lemmas.List.{take_all, take_more, drop_more, drop_all, set_at, length-take-le, append_assoc}
+use Rattle.std.proofs.lemmas.List.{take_all, take_more, drop_more, drop_all, set_at, length-take-le, length-map, append_assoc}
 use Rattle.std.specs.Option.{option_and_then}
 use Rattle.std.proofs.lemmas.Bool.{cases_Bool, cases_lt, cond-true, cond-false}
 use Rattle.store.specs.declared.entry.Entry.{Entry}
@@ -59,16 +59,16 @@ abbrev pub ahead : {K V : Type 0} → (K → K → Bool) → List (Entry K V) �
 ahead below es None = []
 ahead below es (Some k) = keys_not_below below es k
 
-module _ {K V : Type 0} {below : K → K → Bool} (o : Order below) (es : List (Entry K V)) where
-  -- what the next question answers, where there is a key to ask from
-  abbrev pub asked : Option K → Option K
-  asked from = option_and_then (least_from below es) from
+-- what the next question answers, where there is a key to ask from
+abbrev pub asked : {K V : Type 0} → (K → K → Bool) → List (Entry K V) → Option K → Option K
+asked below es from = option_and_then (least_from below es) from
 
-  pub none_met : (from : Option K) → asked from ≡ None → ahead below es from ≡ []
+module _ {K V : Type 0} {below : K → K → Bool} (o : Order below) (es : List (Entry K V)) where
+  pub none_met : (from : Option K) → asked below es from ≡ None → ahead below es from ≡ []
   none_met None p = refl
   none_met (Some k) p = walk_ended o es k p
 
-  pub one_met : (from : Option K) (m : K) (r : Option K) → Ascending below es → asked from ≡ Some m → Succeeds below m r → ahead below es from ≡ m ∷ ahead below es r
+  pub one_met : (from : Option K) (m : K) (r : Option K) → Ascending below es → asked below es from ≡ Some m → Succeeds below m r → ahead below es from ≡ m ∷ ahead below es r
   one_met None m r a p h = grind arith
   one_met (Some k) m None a p h = walk_last o es k m a p h
   one_met (Some k) m (Some s) a p h = walk_next o es k m s a p h
@@ -118,3 +118,11 @@ module _ {K : Type 0} (ks ps now : List K) (i : ℕ) where
   met_all t h =
       let none : length ks - i ≡ 0 = sym (length-drop i ks) ∙ ap length (sym t.rest) in
       met_end [] t (omega (arith, t.some))
+
+  -- as many questions as there are places, or keys in all
+  pub met_most : (ahead : List K) (n : ℕ) → Met ks ps ahead now i → length ks ≤ n → i ≡ min (length ps) n → (i, now) ≡ walked ks ps
+  met_most ahead n t h e = met_end ahead t (omega (arith, t.some))
+
+pub keys-few : {K V : Type 0} (below : K → K → Bool) (es : List (Entry K V)) (k : K) → length (keys_not_below below es k) ≤ length es
+keys-few below [] k = omega arith
+keys-few below (e ∷ es) k = let h = keys-few below es k in let l = length-map es (λ (f : Entry _ _). f.key) in grind arith

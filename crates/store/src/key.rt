@@ -1,4 +1,4 @@
-// Keys, in the order that they derive.
+// Keys, in the order of their `Ord`.
 ghost use Rattle.std.specs.Prelude.{◌≡◌};
 ghost use Rattle.std.specs.declared.cmp.Ordering.TheVariants.{Equal};
 ghost use Rattle.store.specs.Orders.{below, Succeeds};

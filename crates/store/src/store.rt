@@ -38,7 +38,7 @@ pub trait Store {
         ensures room { bound self.new ≡ bound self.old }
         ensures takes { (result, entries self.new) ≡ taking (below Self.Key.cmp) (entries self.old) key.now };
 
-    // each value of the type is a map, with room for its keys
+    // each value of the type stands for a map, with room for its keys
     ghost ascends: { (s : Self) → Ascending (below Self.Key.cmp) (entries s) };
 
     ghost bounded: { (s : Self) → length (entries s) ≤ bound s };
