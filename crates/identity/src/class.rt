@@ -6,9 +6,9 @@ use crate::class::Class::{Digit as D, Letter as L, Other as O};
 
 #[derive(Clone, Copy, PartialEq, Eq, Debug)]
 pub(crate) enum Class {
-    Other = 0,
-    Digit = 1,
-    Letter = 2,
+    Other,
+    Digit,
+    Letter,
 }
 
 // Digits are `0` to `9`, letters `A` to `F`.

@@ -47,8 +47,7 @@ impl Value for u16 {
     ghost written = { decimal_of 65535 };
 
     fn read(bytes: &[u8]) -> Option<u16> {
-        let n = decimal(bytes, 65535)?;
-        Some(n as u16)
+        u16::try_from(decimal(bytes, 65535)?).ok()
     }
 }
 
@@ -57,7 +56,6 @@ impl Value for u8 {
     ghost written = { decimal_of 255 };
 
     fn read(bytes: &[u8]) -> Option<u8> {
-        let n = decimal(bytes, 255)?;
-        Some(n as u8)
+        u8::try_from(decimal(bytes, 255)?).ok()
     }
 }

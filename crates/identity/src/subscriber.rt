@@ -11,11 +11,12 @@ impl Supi {
     pub fn new(imsi: &[u8]) -> Option<Supi>
         ensures { result ≡ imsi_of imsi.now }
     {
-        if !(5..=15).contains(&imsi.len()) {
+        let count = u8::try_from(imsi.len()).ok()?;
+        if !(5..=15).contains(&count) {
             return None;
         }
         Some(Supi {
-            digits: imsi.len() as u8,
+            digits: count,
             value: digits(imsi, u64::MAX)?,
         })
     }

@@ -2,7 +2,7 @@
 ghost use Rattle.std.specs.Prelude.{◌≡◌};
 ghost use Rattle.identity.specs.Words.{spelled};
 
-// What the first of the words stands for that the bytes are.
+// The value of the first word that equals the bytes.
 pub fn word<T: Copy>(bytes: &[u8], words: &[(&[u8], T)]) -> Option<T>
     ensures { result ≡ spelled bytes.now words.now }
 {

@@ -1,6 +1,6 @@
 -- The words that a line may have, by its key.
-use Rattle.std.specs.Prelude.{ℕ, cond, List, Some, None, codes, Option}
-use Rattle.std.specs.Str.{bytes_eq}
+use Rattle.std.specs.Prelude.{ℕ, List, codes, Option}
+use Rattle.identity.specs.Words.{word, no_other}
 use Rattle.reader.specs.declared.words.Operation.{Operation}
 use Rattle.reader.specs.declared.words.Operation.TheVariants.{Ue, Pdu}
 use Rattle.reader.specs.declared.words.UeFlag.{UeFlag}
@@ -9,13 +9,6 @@ use Rattle.reader.specs.declared.words.PduFlag.{PduFlag}
 use Rattle.reader.specs.declared.words.PduFlag.TheVariants as pdu
 use Rattle.reader.specs.declared.words.Counted.{Counted}
 use Rattle.reader.specs.declared.words.Counted.TheVariants.{ThreeGpp, NonThreeGpp, Both}
-
--- what a word stands for, or else
-abbrev pub word : {A : Type 0} → List ℕ → A → (List ℕ → Option A) → List ℕ → Option A
-word text x others bs = cond (bytes_eq bs text) (Some x) (others bs)
-
-abbrev pub no_other : {A : Type 0} → List ℕ → Option A
-no_other bs = None
 
 abbrev pub operation_of : List ℕ → Option Operation
 operation_of = word (codes "ue") Ue (word (codes "pdu") Pdu no_other)

@@ -1,4 +1,4 @@
-// The lines of answers.
+// The texts that an answer is made of.
 ghost use Rattle.std.specs.Prelude.{◌≡◌, Some};
 ghost use Rattle.identity.specs.Slices.{slice_of};
 ghost use Rattle.writer.specs.Hexes.{long_text};

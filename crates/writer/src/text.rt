@@ -1,4 +1,4 @@
-// What is written whole or not at all.
+// Values that have a short text.
 ghost use Rattle.std.specs.Prelude.{◌≡◌, ℕ, List};
 
 use arrayvec::ArrayString;
