@@ -1,5 +1,5 @@
 // Reading settings.
-ghost use Rattle.std.specs.Prelude.{◌≡◌, ◌+◌};
+ghost use Rattle.std.specs.Prelude.{◌≡◌, ◌^◌, ◌<◌};
 ghost use Rattle.reader.specs.Faults.{Decided};
 ghost use Rattle.reader.specs.SettingsFaults.{SettingsFault};
 ghost use Rattle.reader.specs.Tables.{named, entries, sessions, slice_line_at, entries_line_at, sessions_line_at, block_at, settings_of};
@@ -27,22 +27,15 @@ impl Table<'_> {
         self.blocks.as_slice().iter().any(|b| b.slice == slice)
     }
 
-    // The UE entries that the blocks reserve, with those of one block more.
-    fn entries_with(&self, more: u32) -> u64
-        ensures { result ≡ entries self.now.blocks.now + more }
+    // The UE entries and the sessions that the blocks reserve.
+    fn reserved(&self) -> (u64, u64)
+        ensures sums { result ≡ (entries self.now.blocks.now, sessions self.now.blocks.now) }
+        ensures small { (result.0 < 2 ^ 40) × (result.1 < 2 ^ 40) }
     {
         let blocks = self.blocks.as_slice();
-        let reserved: u64 = blocks.iter().map(|b| u64::from(b.ue_entries)).sum();
-        reserved + u64::from(more)
-    }
-
-    // The sessions that the blocks reserve, with those of one block more.
-    fn sessions_with(&self, more: u32) -> u64
-        ensures { result ≡ sessions self.now.blocks.now + more }
-    {
-        let blocks = self.blocks.as_slice();
-        let reserved: u64 = blocks.iter().map(|b| u64::from(b.pdu_max)).sum();
-        reserved + u64::from(more)
+        let entries = blocks.iter().map(|b| u64::from(b.ue_entries)).sum();
+        let sessions = blocks.iter().map(|b| u64::from(b.pdu_max)).sum();
+        (entries, sessions)
     }
 
     #[tactic(auto, unfolding(crate::specs::Tables::slice_line_at, crate::specs::Readings::checked))]
@@ -73,7 +66,8 @@ impl Table<'_> {
         if entries < ue_max {
             return Err(Reason::EntriesBelowMax.at(line));
         }
-        if self.entries_with(entries) > self.capacities.ues as u64 {
+        let (reserved, _) = self.reserved();
+        if reserved + u64::from(entries) > self.capacities.ues as u64 {
             return Err(Reason::StoreTooSmall.at(line));
         }
         Ok(entries)
@@ -85,7 +79,8 @@ impl Table<'_> {
     {
         let line = lines.line();
         let sessions = lines.number(b"pdu-max=", 40_000)?;
-        if self.sessions_with(sessions) > self.capacities.sessions as u64 {
+        let (_, reserved) = self.reserved();
+        if reserved + u64::from(sessions) > self.capacities.sessions as u64 {
             return Err(Reason::StoreTooSmall.at(line));
         }
         Ok(sessions)
