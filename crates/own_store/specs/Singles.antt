@@ -11,6 +11,7 @@ abbrev pub content : {K V : Type 0} → Single K V → List (Entry K V)
 content s = option_to_list s.entry
 
 module _ {K V : Type 0} where
+  -- one entry ascends, in any order
   pub one_ascends : (below : K → K → Bool) (held : Option (Entry K V)) → Ascending below (option_to_list held)
   one_ascends below None = tt
   one_ascends below (Some e) = (tt, tt)

@@ -25,10 +25,12 @@ abbrev pub Spots : {K V : Type 0} → (K → K → Bool) → List (Entry K V) �
 Spots below es k None = lookup below (sorted below es) k ≡ None
 Spots {K} {V} below es k (Some i) = (i < length es) × ((d : Entry K V) → (slice_index_or es i d).key ≡ k) × ((d : Entry K V) → lookup below (sorted below es) k ≡ Some (slice_index_or es i d).value)
 
+-- it is a fact, with no more to it than that it holds
 pub distinct_prop : {K V : Type 0} (below : K → K → Bool) (es : List (Entry K V)) → IsProp (Distinct below es)
 distinct_prop below [] = Unit-prop
 distinct_prop below (e ∷ es) = ×_prop (Bool-set _ _) (distinct_prop below es)
 
+-- the map's keys ascend
 pub ascending_sorted : {K V : Type 0} {below : K → K → Bool} (o : Order below) (es : List (Entry K V)) → Ascending below (sorted below es)
 ascending_sorted o [] = tt
 ascending_sorted {below = below} o (e ∷ es) = ascending_adding o (sorted below es) e.key e.value (ascending_sorted o es)
