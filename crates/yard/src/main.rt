@@ -1,6 +1,8 @@
 // Checks the texts of a depot on standard input: settings first, then requests.
 #![tactic(auto)]
 
+ghost use Rattle.std.specs.Prelude.{◌≤◌, length, IfOk};
+
 use checker::pieces::Pieces;
 use checker::reports::Kind;
 use std::io;
@@ -9,9 +11,24 @@ use std::io::{Read, Write};
 // How much of the input is held; the rest is cut off.
 const HELD: usize = 16384;
 
-fn print_report(out: &mut impl Write, kind: Kind, piece: &[u8]) -> io::Result<()> {
-    let mut text = [0u8; 264];
-    if let Some(end) = kind.report(piece, &mut text) {
+// Reads until the buffer is full or the input ends, and says how much it read.
+fn fill(from: &mut impl Read, buffer: &mut [u8]) -> io::Result<usize>
+    ensures { IfOk result (λ n. n ≤ length buffer.old) }
+{
+    let mut len: usize = 0;
+    while len < buffer.len() {
+        let got = from.read(&mut buffer[len..])?;
+        if got == 0 {
+            break;
+        }
+        len += got;
+    }
+    Ok(len)
+}
+
+// The report is made in the lent bytes.
+fn print_report(out: &mut impl Write, kind: Kind, piece: &[u8], text: &mut [u8]) -> io::Result<()> {
+    if let Some(end) = kind.report(piece, text) {
         out.write_all(&text[..end])?;
     }
     out.write_all(b"\n")
@@ -19,13 +36,14 @@ fn print_report(out: &mut impl Write, kind: Kind, piece: &[u8]) -> io::Result<()
 
 fn main(rt: HostRuntime) -> io::Result<()> {
     let mut input = [0u8; HELD];
-    let len = io::copy(&mut rt.stdin().take(HELD as u64), &mut &mut input[..])?;
-    let mut pieces = Pieces::new(&input[..HELD.min(len as usize)]);
+    let len = fill(&mut rt.stdin(), &mut input)?;
+    let mut pieces = Pieces::new(&input[..len]);
+    let mut text = [0u8; 264];
     if let Some(settings) = pieces.next() {
-        print_report(&mut rt.stdout(), Kind::Settings, settings)?;
+        print_report(&mut rt.stdout(), Kind::Settings, settings, &mut text)?;
     }
     for request in pieces {
-        print_report(&mut rt.stdout(), Kind::Request, request)?;
+        print_report(&mut rt.stdout(), Kind::Request, request, &mut text)?;
     }
     Ok(())
 }
