@@ -1,10 +1,11 @@
 -- Cutting by the scan for the first empty line.
-use Rattle.std.proofs.Common.{◌≡◌, ℕ, suc, ◌+◌, ◌-◌, ◌<◌, ◌≤◌, min, Bool, true, cond, ◌&&◌, eqb, List, [], ◌∷◌, ◌++◌, length, take, drop, ltb, Some, None, Option, refl, sym, ap, ◌∙◌, append_assoc, append-nil, arith, length-append}
+use Rattle.std.proofs.Common.{◌≡◌, ℕ, suc, ◌+◌, ◌-◌, ◌<◌, ◌≤◌, min, Bool, true, cond, ◌&&◌, eqb, List, [], ◌∷◌, ◌++◌, length, get_or, take, drop, ltb, Some, None, Option, refl, sym, ap, ◌∙◌, append_assoc, append-nil, arith, length-append}
 use Rattle.std.proofs.lemmas.Bool.Decides.{nat_tests}
-use Rattle.std.proofs.lemmas.List.{drop_min, take_rest}
+use Rattle.std.proofs.lemmas.Grind.{common_steps}
+use Rattle.std.proofs.lemmas.List.{drop_min, take_all, take_rest}
 use Rattle.std.proofs.lemmas.Slice.Zip.{length-zip}
 use Rattle.std.specs.List.{zip, position_or_len}
-use Rattle.std.specs.Option.{unwrap_or}
+use Rattle.std.specs.Option.{MatchOption}
 use Rattle.checker.specs.Pieces.{cut, pieces_of, up_to}
 
 -- the first piece ends where the scan does, and the others begin after that line feed
@@ -33,10 +34,13 @@ within : (fresh : Bool) (bs : List ℕ) → up_to fresh bs ≤ length bs
 within fresh [] = omega arith
 within fresh (b ∷ bs) = grind (arith, nat_tests, within (eqb b 10) bs)
 
--- the first pair of line feeds is where the first empty line is
-pub first_pair : (bs : List ℕ) (r : Option ℕ) → r ≡ cond (ltb (position_or_len empty_line? (zip (10 ∷ bs) bs)) (length (zip (10 ∷ bs) bs))) (Some (position_or_len empty_line? (zip (10 ∷ bs) bs))) None → unwrap_or r (length bs) ≡ up_to true bs
-first_pair bs r e =
-    let place = paired 10 bs in
-    let most = within true bs in
-    let long : length (zip (10 ∷ bs) bs) ≡ length bs = length-zip (10 ∷ bs) bs ∙ omega arith in
-    grind (arith, nat_tests)
+-- in a text that does not begin with an empty line, the first one is the second line feed of the first pair
+pub first_pair : (text rest : List ℕ) (r : Option ℕ) (n : ℕ) → 1 ≤ length text → (get_or text 0 0 ≡ 10 → ⊥) → rest ≡ take (length text - 1) (drop 1 text) → r ≡ cond (ltb (position_or_len empty_line? (zip text rest)) (length (zip text rest))) (Some (position_or_len empty_line? (zip text rest))) None → MatchOption r (n ≡ length text) (λ i. n ≡ i + 1) → n ≡ up_to true text
+first_pair [] rest r n some other is found told = absurd (omega arith)
+first_pair (b ∷ bs) rest r n some other is found told =
+    let all : rest ≡ bs = is ∙ take_all _ bs (omega arith) in
+    let place = paired b bs in
+    let most = within (eqb b 10) bs in
+    let long : length (zip (b ∷ bs) bs) ≡ length bs = length-zip (b ∷ bs) bs ∙ omega arith in
+    let from = rw all at found in
+    grind (arith, nat_tests, common_steps)

@@ -3,7 +3,6 @@ ghost use Rattle.std.specs.Prelude.{◌≡◌, ◌≤◌, true, length};
 ghost use Rattle.std.specs.Iterator.{YieldsFirstBy, item_count};
 ghost use Rattle.checker.specs.Pieces.{up_to, pieces_of};
 
-use std::iter;
 use std::marker::Model;
 
 // The pieces of an input that are still to come.
@@ -27,11 +26,14 @@ fn piece_end(text: &[u8]) -> usize
     ensures ends { result ≡ up_to true text.now }
     ensures within { result ≤ length text.now }
 {
-    iter::once(b'\n')
-        .chain(text.iter().copied())
-        .zip(text)
-        .position(|(before, byte)| before == b'\n' && *byte == b'\n')
-        .unwrap_or(text.len())
+    match text {
+        [first, rest @ ..] if *first != b'\n' => text
+            .iter()
+            .zip(rest)
+            .position(|(before, byte)| *before == b'\n' && *byte == b'\n')
+            .map_or(text.len(), |i| i + 1),
+        _ => 0,
+    }
 }
 
 impl<'a> Pieces<'a> {
