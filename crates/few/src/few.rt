@@ -38,7 +38,8 @@ impl<T: Copy, const N: usize> Few<T, N> {
 
     // One more item.
     pub fn push(&mut self, item: T) -> Result<(), Full>
-        ensures { (result, self.new) ≡ pushed N item self.old }
+        ensures pushes { (result, self.new) ≡ pushed N item self.old }
+        ensures few { length self.new ≤ N }
     {
         if self.len == N {
             return Err(Full);
@@ -50,7 +51,8 @@ impl<T: Copy, const N: usize> Few<T, N> {
 
     // All of the items after those that are held, or none of them.
     pub fn extend(&mut self, items: &[T]) -> Result<(), Full>
-        ensures { (result, self.new) ≡ extended N items.now self.old }
+        ensures extends { (result, self.new) ≡ extended N items.now self.old }
+        ensures few { length self.new ≤ N }
     {
         if items.len() > N - self.len {
             return Err(Full);

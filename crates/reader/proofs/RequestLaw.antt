@@ -17,7 +17,7 @@ use Rattle.reader.specs.declared.words.Operation.{Operation}
 use Rattle.reader.specs.declared.words.Operation.TheVariants.{Ue, Pdu}
 use Rattle.reader.specs.Faults.{goes_on, value_on, rule, Decided}
 use Rattle.reader.specs.Lines.{Place}
-use Rattle.reader.specs.Readings.{Reading, and_then, gives, field_at, all_at}
+use Rattle.reader.specs.Readings.{Reading, and_then, gives, field_at, at_most_at}
 use Rattle.reader.specs.RequestFaults.{operation_in, head_rules, slice_rule, rule_on, Due, RequestFault, missing, unlawful, surplus}
 use Rattle.reader.specs.Requests.{call_lines_at, call_of, call_at, slice_at, slices_at, request_at, request_of}
 use Rattle.reader.specs.Words.{operation_of, ue_flag_of, pdu_flag_of}
@@ -92,15 +92,15 @@ module _ (text : List ℕ) where
       (surplus (omega arith) v.1, λ g fits z. let f = only-surplus k (codes "slice=") slice_of (is_slice k (omega arith)) x s g fits z in grind arith)
 
   -- all slices, up to the end of the text or to the ninth
-  slice_steps : (n : ℕ) (done : List Snssai) (k : ℕ) → k ≡ 5 + length done → n + length done ≡ 8 → Due text (suc k) → Past Fits k → Ends Fits (λ ss q. Clean Fits) (all_at n slice_at done (before text k))
-  unfolding all_at
+  slice_steps : (n : ℕ) (done : List Snssai) (k : ℕ) → k ≡ 5 + length done → n + length done ≡ 8 → Due text (suc k) → Past Fits k → Ends Fits (λ ss q. Clean Fits) (at_most_at n slice_at done (before text k))
+  unfolding at_most_at
   slice_steps zero done k at room due past =
       surplus_step Fits text k _ past (ruled k (codes "slice=") slice_of (is_slice k (omega arith)) due) (λ x. ninth k x (omega arith))
   slice_steps (suc n) done k at room due past =
       plain_step k (codes "slice=") slice_of (is_slice k (omega arith)) _ _ due (omega arith) past (λ x _ past1.
       let longer = length_push done x in
       let next : suc k ≡ suc (suc k) - 1 = omega arith in
-      more_or_end Fits text (suc k) _ (all_at n slice_at (done ++ x ∷ []) (before text (suc k))) (done ++ x ∷ [])
+      more_or_end Fits text (suc k) _ (at_most_at n slice_at (done ++ x ∷ []) (before text (suc k))) (done ++ x ∷ [])
       (λ on. slice_steps n (done ++ x ∷ []) (suc k) (omega arith) (omega arith) (omega arith, inr (subst (λ i. goes_on text i ≡ true) next on)) past1)
       (λ end. ended (suc k) (omega arith) end past1))
 

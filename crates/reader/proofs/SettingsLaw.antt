@@ -10,7 +10,7 @@ use Rattle.reader.specs.declared.settings.Capacities.{Capacities}
 use Rattle.reader.specs.declared.settings.Settings.{Settings}
 use Rattle.reader.specs.Faults.{goes_on, rule, Decided}
 use Rattle.reader.specs.Lines.{Place, more?}
-use Rattle.reader.specs.Readings.{Reading, and_then, field_at, checked, all_at}
+use Rattle.reader.specs.Readings.{Reading, and_then, field_at, checked, at_most_at}
 use Rattle.reader.specs.SettingsFaults.{
   rule_on,
   Due,
@@ -80,26 +80,26 @@ module _ (c : Capacities) (text : List ℕ) where
 
   -- the reading of at most n blocks more, and one that is refused, ends as it must
   abbrev Continues : ℕ → List Block → Type 0
-  Continues n done = (k : ℕ) → k ≡ 5 * length done → ((i : ℕ) → (k < i) × (i ≤ 5 + k) → Due text i) → Told text done → Past Fits k → Ends Fits (λ bs q. Clean Fits) (all_at n (block_at c) done (before text k))
+  Continues n done = (k : ℕ) → k ≡ 5 * length done → ((i : ℕ) → (k < i) × (i ≤ 5 + k) → Due text i) → Told text done → Past Fits k → Ends Fits (λ bs q. Clean Fits) (at_most_at n (block_at c) done (before text k))
 
   -- a seventeenth block is not read
   full : (done : List Block) (k : ℕ) → 16 ≤ length done → (x : Block) (q : Place) → BlockRead done k x q → ⊥
   full done k h x q (block_read l s e m past) = omega arith
 
   -- after a block comes the next one or the end
-  after_block : (n : ℕ) (done : List Block) (k : ℕ) → k ≡ 5 * length done → Told text done → ((x : Block) → Continues n (done ++ x ∷ [])) → (x : Block) (q : Place) → BlockRead done k x q → Ends Fits (λ bs s. Clean Fits) (cond (more? q) (all_at n (block_at c) (done ++ x ∷ []) q) (Ok (done ++ x ∷ []), q))
+  after_block : (n : ℕ) (done : List Block) (k : ℕ) → k ≡ 5 * length done → Told text done → ((x : Block) → Continues n (done ++ x ∷ [])) → (x : Block) (q : Place) → BlockRead done k x q → Ends Fits (λ bs s. Clean Fits) (cond (more? q) (at_most_at n (block_at c) (done ++ x ∷ []) q) (Ok (done ++ x ∷ []), q))
   after_block n done k at told next x q (block_read l s e m past) =
       let k5 = suc (suc (suc (suc (suc k)))) in
       let b = length (done ++ x ∷ []) in
       let longer = length_push done x in
       let here : k5 ≡ 5 * b = omega arith in
-      more_or_end Fits text k5 _ (all_at n (block_at c) (done ++ x ∷ []) (before text k5)) (done ++ x ∷ [])
+      more_or_end Fits text k5 _ (at_most_at n (block_at c) (done ++ x ∷ []) (before text k5)) (done ++ x ∷ [])
       (λ on. next x k5 here (λ i. next_due k5 b i here on) (told_more text done x told s e m) past)
       (λ end. ended c text k5 b here (omega arith) end past)
 
   -- all blocks, up to the end of the text or to the seventeenth
   block_steps : (n : ℕ) (done : List Block) → n + length done ≡ 16 → Continues n done
-  unfolding all_at
+  unfolding at_most_at
   block_steps zero done room k at due told past =
       in_turn Fits text (BlockRead done k) _ (block_at c done) _ (before text k) (block_lines done k at due told past) (λ x q r. absurd (full done k (omega arith) x q r))
   block_steps (suc n) done room k at due told past =

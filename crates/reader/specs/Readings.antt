@@ -54,7 +54,8 @@ checked m fault p = (tested p.1 fault (m p).0, (m p).1)
 abbrev pub one_too_many : {A B : Type 0} → Reading A → Reading B
 one_too_many m p = onward (m p).0 (m p).1 (λ x q. (Err (refusal TooMany p.1), q))
 
--- items up to the end of the text, at least one, and at most so many after those that are done
-unfoldable pub all_at : {A : Type 0} → ℕ → (List A → Reading A) → List A → Reading (List A)
-all_at zero one done = one_too_many (one done)
-all_at (suc n) one done = and_then (one done) (λ x p. cond (more? p) (all_at n one (done ++ x ∷ []) p) (Ok (done ++ x ∷ []), p))
+-- items up to the end of the text, at least one, and at most so many after those that are done: an item that comes where
+-- no more may is refused at its line
+unfoldable pub at_most_at : {A : Type 0} → ℕ → (List A → Reading A) → List A → Reading (List A)
+at_most_at zero one done = one_too_many (one done)
+at_most_at (suc n) one done = and_then (one done) (λ x p. cond (more? p) (at_most_at n one (done ++ x ∷ []) p) (Ok (done ++ x ∷ []), p))

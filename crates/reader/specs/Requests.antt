@@ -12,7 +12,7 @@ use Rattle.reader.specs.declared.request.Call.TheVariants as call
 use Rattle.reader.specs.declared.request.Request.{Request}
 use Rattle.reader.specs.declared.words.Operation.{Operation}
 use Rattle.reader.specs.declared.words.Operation.TheVariants.{Ue, Pdu}
-use Rattle.reader.specs.Readings.{Reading, and_then, gives, field_at, all_at}
+use Rattle.reader.specs.Readings.{Reading, and_then, gives, field_at, at_most_at}
 use Rattle.reader.specs.Words.{operation_of, ue_flag_of, pdu_flag_of}
 
 -- the lines of a call after its operation: a flag, a UE, and a number under a key of its own
@@ -45,7 +45,7 @@ slice_at before = field_at (codes "slice=") slice_of
 
 -- at most eight slices
 unfoldable pub slices_at : Reading (List Snssai)
-slices_at = all_at 8 slice_at []
+slices_at = at_most_at 8 slice_at []
 
 -- a whole request
 abbrev pub request_at : Reading Request

@@ -9,7 +9,7 @@ use Rattle.identity.specs.Slices.{slice_of}
 use Rattle.reader.specs.declared.settings.Block.{Block}
 use Rattle.reader.specs.declared.settings.Capacities.{Capacities}
 use Rattle.reader.specs.declared.settings.Settings.{Settings}
-use Rattle.reader.specs.Readings.{Reading, and_then, gives, field_at, number_at, checked, all_at}
+use Rattle.reader.specs.Readings.{Reading, and_then, gives, field_at, number_at, checked, at_most_at}
 use Rattle.reader.specs.Words.{counted_of}
 
 abbrev pub same_slice : Snssai → Snssai → Bool
@@ -68,7 +68,7 @@ block_at c bs =
 
 -- one block or more, up to the end of the text
 unfoldable pub blocks_at : Capacities → Reading (List Block)
-blocks_at c = all_at 16 (block_at c) []
+blocks_at c = at_most_at 16 (block_at c) []
 
 -- whole settings
 abbrev pub settings_at : Capacities → Reading Settings

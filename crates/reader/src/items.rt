@@ -1,6 +1,6 @@
 // What a text lists up to its end.
-ghost use Rattle.std.specs.Prelude.{◌≡◌, [], List};
-ghost use Rattle.reader.specs.Readings.{Reading, all_at};
+ghost use Rattle.std.specs.Prelude.{◌≡◌, ◌≤◌, [], List, length, IfOk};
+ghost use Rattle.reader.specs.Readings.{Reading, at_most_at};
 
 use crate::lines::Lines;
 use few::few::Few;
@@ -31,7 +31,8 @@ pub(crate) fn all_items<T: Item<G, N>, G: Copy, const N: usize>(
     lines: &mut Lines,
     given: G,
 ) -> Result<Few<T, N>, Refusal>
-    ensures { (result, lines.new) ≡ all_at N (T.item_at given) [] lines.old }
+    ensures reads { (result, lines.new) ≡ at_most_at N (T.item_at given) [] lines.old }
+    ensures few { IfOk result (λ xs. length xs ≤ N) }
 {
     let mut items = Few::new(T::FILLER);
     loop {

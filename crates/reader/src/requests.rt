@@ -1,5 +1,5 @@
 // Reading a request.
-ghost use Rattle.std.specs.Prelude.{◌≡◌};
+ghost use Rattle.std.specs.Prelude.{◌≡◌, ◌≤◌, length, IfOk};
 ghost use Rattle.reader.specs.Faults.{Decided};
 ghost use Rattle.reader.specs.RequestFaults.{RequestFault};
 ghost use Rattle.reader.specs.Requests.{call_at, call_lines_at, slice_at, request_of};
@@ -56,6 +56,7 @@ impl Item<(), 8> for Snssai {
 pub fn read_request(text: &[u8]) -> Result<Request, Refusal>
     ensures reads { result ≡ request_of text.now }
     ensures decided { Decided (RequestFault text.now) result }
+    ensures few { IfOk result (λ r. length r.slices ≤ 8) }
 {
     let mut lines = Lines::new(text);
     let (call, ue) = call(&mut lines)?;

@@ -1,5 +1,5 @@
 // Reading settings.
-ghost use Rattle.std.specs.Prelude.{◌≡◌, ◌^◌, ◌<◌};
+ghost use Rattle.std.specs.Prelude.{◌≡◌, ◌^◌, ◌<◌, ◌≤◌, length, IfOk};
 ghost use Rattle.reader.specs.Faults.{Decided};
 ghost use Rattle.reader.specs.SettingsFaults.{SettingsFault};
 ghost use Rattle.reader.specs.Tables.{named, entries, sessions, slice_line_at, entries_line_at, sessions_line_at, block_at, settings_of};
@@ -130,6 +130,7 @@ impl Item<Capacities, 16> for Block {
 pub fn read_settings(text: &[u8], capacities: Capacities) -> Result<Settings, Refusal>
     ensures reads { result ≡ settings_of capacities text.now }
     ensures decided { Decided (SettingsFault capacities text.now) result }
+    ensures few { IfOk result (λ s. length s.blocks ≤ 16) }
 {
     let mut lines = Lines::new(text);
     let blocks = all_items(&mut lines, capacities)?;
