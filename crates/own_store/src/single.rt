@@ -64,7 +64,7 @@ impl<K: Key + Drop, V: Copy + Drop> Store for Single<K, V> {
 impl<K: Key + Drop, V: Copy + Drop> WalkingStore for Single<K, V> {
     fn next(&self, from: &K) -> Option<K> {
         self.entry
-            .filter(|entry| entry.key >= *from)
+            .filter(|entry| entry.key.cmp(from).is_ge())
             .map(|entry| entry.key)
     }
 }

@@ -1,7 +1,7 @@
 -- What a loose row stands for.
-use Rattle.std.specs.Prelude.{◌≡◌, ℕ, suc, ◌+◌, ◌<◌, ◌≤◌, Bool, false, List, [], ◌∷◌, length, Some, None, Option, slice_index_or}
+use Rattle.std.specs.Prelude.{◌≡◌, ℕ, suc, ◌+◌, ◌<◌, ◌≤◌, Bool, false, List, [], ◌∷◌, length, take, Some, None, Option, slice_index_or}
 use Rattle.std.specs.Coded.{×_prop, Unit-prop}
-use Rattle.std.proofs.Common.{arith}
+use Rattle.std.proofs.Common.{arith, length-take}
 use Rattle.std.proofs.Math.Bool.{Bool-set}
 use Rattle.std.proofs.lemmas.Bool.{cond_both}
 use Rattle.store.specs.declared.entry.Entry.{Entry}
@@ -45,3 +45,7 @@ few {below = below} o (e ∷ es) =
 -- no more keys than cells
 pub few_sorted : {K V : Type 0} {below : K → K → Bool} (o : Order below) (f : Filling (Entry K V)) → length (sorted below f.items) ≤ cell_count f
 few_sorted o f = let h = few o f.items in omega arith
+
+-- the same of any cells, of which the first n are in use
+pub few_sorted_any : {K V : Type 0} {below : K → K → Bool} (o : Order below) (n : ℕ) (xs : List (Entry K V)) → length (sorted below (take n xs)) ≤ length xs
+few_sorted_any o n xs = let h = few o (take n xs) in omega (arith, length-take n xs)

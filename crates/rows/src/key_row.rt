@@ -35,7 +35,7 @@ impl<'a, K: Key, V: Copy> KeyRow<'a, K, V> {
         ensures { result ≡ place (below K.cmp) self.now.cells.items key.now }
     {
         let entries = self.cells.as_slice();
-        let first = entries.iter().position(|entry| entry.key >= *key);
+        let first = entries.iter().position(|entry| entry.key.cmp(key).is_ge());
         first.unwrap_or(entries.len())
     }
 

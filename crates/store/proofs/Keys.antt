@@ -1,9 +1,13 @@
 -- The order that a total `cmp` gives, where keys that rank equal are one key, and what `>=` and `==` say of it.
 use Rattle.std.proofs.Common.{◌≡◌, Bool, true, false, not, Some, Option, Ordering, Less, Equal, Greater, sym, arith}
 use Rattle.std.specs.Cmp.{IsTotalOrder}
-use Rattle.std.specs.Ordering.{MatchOrdering, is_eq, partial_ge}
+use Rattle.std.specs.Ordering.{MatchOrdering, is_eq, is_ge, partial_ge}
 use Rattle.std.proofs.lemmas.Cmp.{tied_itself}
 use Rattle.store.specs.Orders.{Order, below}
+
+-- a key that does not rank before another is not below it
+pub ranks_ge : {K : Type 0} (cmp : K → K → Ordering) (a b : K) → is_ge (cmp a b) ≡ not (below cmp a b)
+ranks_ge cmp a b = grind arith
 
 module _ {K : Type 0} {cmp : K → K → Ordering} where
   pub at_least : (partial-cmp : K → K → Option Ordering) → ((a b : K) → partial-cmp a b ≡ Some (cmp a b)) → (a b : K) → partial_ge partial-cmp a b ≡ not (below cmp a b)

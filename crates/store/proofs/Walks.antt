@@ -1,6 +1,6 @@
 -- By repeated questions one meets every key once, in order.
 use Rattle.std.proofs.Common.{◌≡◌, ℕ, ◌+◌, ◌-◌, ◌<◌, ◌≤◌, min, Bool, true, List, [], ◌∷◌, ◌++◌, length, get_or, take, drop, set, Some, None, Option, sym, refl, ap, ◌∙◌, subst, ⊎_elim, arith, length-drop}
-use Rattle.std.proofs.lemmas.List.{take_all, take_more, drop_more, drop_all, set_at, length-take-le, length-map, append_assoc}
+use Rattle.std.proofs.lemmas.List.{take_all, take_more, take-append-drop, drop_more, drop_all, drop-append-le, set_at, length-take-le, length-map, append_assoc}
 use Rattle.std.specs.Option.{option_and_then}
 use Rattle.std.proofs.lemmas.Bool.{cases_Bool, cases_lt, cond-true, cond-false}
 use Rattle.store.specs.declared.entry.Entry.{Entry}
@@ -97,6 +97,17 @@ module _ {K : Type 0} (ks ps now : List K) (i : ℕ) where
         places = ap (λ l. set l i m) (t.places ∙ ap (λ l. take i ks ++ l) (drop_more ps i m h)) ∙ set_at (take i ks) (get_or ps i m) (drop (i + 1) ps) m i (length-take-le i ks t.some)
             ∙ sym (append_assoc (take i ks) (m ∷ []) (drop (i + 1) ps)) ∙ ap (λ l. l ++ drop (i + 1) ps) (ap (λ x. take i ks ++ x ∷ []) (sym here) ∙ sym (take_more ks i m in-ks));
         some = omega arith;
+      }
+
+  -- what was met in the first n places, among all places
+  pub met_front : (n : ℕ) (ahead : List K) → Met ks (take n ps) ahead now i → i ≤ n → n ≤ length ps → Met ks ps ahead (now ++ drop n ps) i
+  met_front n ahead t h l =
+      let seam : drop i (take n ps) ++ drop n ps ≡ drop i ps =
+      sym (drop-append-le i (take n ps) (drop n ps) (omega (arith, length-take-le n ps l))) ∙ ap (drop i) (take-append-drop n ps) in
+      record {
+        rest = t.rest;
+        places = ap (λ l. l ++ drop n ps) t.places ∙ append_assoc (take i ks) (drop i (take n ps)) (drop n ps) ∙ ap (λ l. take i ks ++ l) seam;
+        some = t.some;
       }
 
   -- all that can be met

@@ -12,13 +12,14 @@ pub fn keys_from<S: WalkingStore>(store: &S, from: S::Key, places: &mut [S::Key]
     ensures within { result ≤ length places.old }
     ensures walks { (result, places.new) ≡ walked (keys_not_below (below S.Key.cmp) (S.entries store.now) from) places.old }
 {
+    let most = places.len().min(store.size());
     let mut next = Some(from);
-    for (met, place) in places.iter_mut().enumerate() {
+    for (met, place) in places[..most].iter_mut().enumerate() {
         let Some(key) = next.and_then(|start| store.next(&start)) else {
             return met;
         };
         *place = key;
         next = key.successor();
     }
-    places.len()
+    most
 }

@@ -10,7 +10,7 @@ pub invariant_of-self : goal.invariant_of-self
 invariant_of-self g c =
     let o = key_order g.met.K.Ord.total g.met.K.Key.one in
     let s = c.args.self.now in
-    record { ascends = (replaced o s.cells.items c.set.new.self.items c.args.key c.in-Ok.place s.ascends c.args.value c.in-Ok.ensures c.set.ensures.items).0 }
+    record { ascends = (replaced o s.cells.items c.set.new.self.items c.args.key c.in-Ok.place s.ascends c.args.value c.in-Ok.ensures (grind arith)).0 }
 
 pub invariant_of-self-in-Err-2 : goal.invariant_of-self-in-Err-2
 invariant_of-self-in-Err-2 g c =
@@ -22,7 +22,7 @@ pub returns-in-Ok-clause-puts : goal.returns-in-Ok-clause-puts
 returns-in-Ok-clause-puts g c =
     let o = key_order g.met.K.Ord.total g.met.K.Key.one in
     let s = c.args.self.now in
-    let r = replaced o s.cells.items c.set.new.self.items c.args.key c.in-Ok.place s.ascends c.args.value c.in-Ok.ensures c.set.ensures.items in
+    let r = replaced o s.cells.items c.set.new.self.items c.args.key c.in-Ok.place s.ascends c.args.value c.in-Ok.ensures (grind arith) in
     put_held (below g.K.Ord.cmp) s.cells.items c.set.new.self.items c.args.key (cell_count s.cells) c.args.value c.in-Ok.ensures.1 r.1
 
 pub returns-in-Err-2-clause-puts : goal.returns-in-Err-2-clause-puts
@@ -30,4 +30,4 @@ returns-in-Err-2-clause-puts g c =
     let o = key_order g.met.K.Ord.total g.met.K.Key.one in
     let s = c.args.self.now in
     let r = inserted o s.cells.items c.insert.new.self.items c.args.key c.in-Err.field-0 s.ascends c.args.value c.in-Err.ensures c.insert.ensures.items in
-    put_new (below g.K.Ord.cmp) s.cells.items c.insert.new.self.items c.args.key (cell_count s.cells) c.args.value (grind (arith, c.if-is_full.ensures)) r.1
+    put_new (below g.K.Ord.cmp) s.cells.items c.insert.new.self.items c.args.key (cell_count s.cells) c.args.value (grind arith) r.1

@@ -1,4 +1,4 @@
-use Rattle.std.proofs.Common.{length, sym, ap, ◌∙◌}
+use Rattle.std.proofs.Common.{arith}
 use Rattle.store.proofs.Keys.{key_order}
 use Rattle.rows.proofs.Loose.{full}
 use Rattle.rows.proofs.loose_row.LooseRowStore.size.Goals as goal
@@ -6,4 +6,5 @@ use Rattle.rows.proofs.loose_row.LooseRowStore.size.Goals as goal
 pub returns : goal.returns
 returns g c =
     let s = c.args.self.now in
-    ap length c.as_slice.ensures ∙ sym (full (key_order g.met.K.Ord.total g.met.K.Key.one) s.cells.items s.distinct)
+    let f = full (key_order g.met.K.Ord.total g.met.K.Key.one) s.cells.items s.distinct in
+    grind arith
