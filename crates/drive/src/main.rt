@@ -1,4 +1,4 @@
-// Drives each make of store and a simple model of plain numbers through the same steps, and counts the answers that differ.
+// Drives each make of store and a simple model through the same steps, and counts the answers that differ.
 #![tactic(auto)]
 
 mod dice;
@@ -39,8 +39,8 @@ fn drive<S: Store<Key = Number, Value = u8> + Drop>(
     size: usize,
     store: S,
 ) -> io::Result<Trial<S>> {
-    let mut trial = Trial::new(rt.alloc(), store, size);
-    let tally = trial.run()?;
+    let mut trial = Trial::new(store, size);
+    let tally = trial.run();
     tell(rt, make, size, tally)?;
     Ok(trial)
 }

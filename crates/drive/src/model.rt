@@ -1,7 +1,4 @@
-// A simple model of a store over plain numbers: a map of the standard library, and how many keys it may hold.
-use std::alloc::{AllocError, Global};
-use std::collections::BTreeMap;
-use std::collections::btree_map::Keys;
+// A simple model of a store: what each of 64 keys has, how many have something, and how many may.
 
 // There is no room for a new key.
 #[derive(Clone, Copy, PartialEq, Eq, Debug)]
@@ -9,14 +6,16 @@ pub(crate) struct NoRoom;
 
 #[derive(Drop)]
 pub(crate) struct Model {
-    entries: BTreeMap<u8, u8>,
+    values: [Option<u8>; 64],
+    held: usize,
     capacity: usize,
 }
 
 impl Model {
-    pub(crate) fn new(alloc: Global, capacity: usize) -> Model {
+    pub(crate) fn new(capacity: usize) -> Model {
         Model {
-            entries: BTreeMap::new(alloc),
+            values: [None; 64],
+            held: 0,
             capacity,
         }
     }
@@ -26,32 +25,38 @@ impl Model {
     }
 
     pub(crate) fn size(&self) -> usize {
-        self.entries.len()
-    }
-
-    pub(crate) fn keys(&self) -> Keys<'_, u8, u8> {
-        self.entries.keys()
+        self.held
     }
 
     pub(crate) fn find(&self, key: u8) -> Option<u8> {
-        self.entries.get(&key).copied()
+        self.values.get(usize::from(key)).copied().flatten()
     }
 
-    // The least key that is held, from the given one on.
+    // The least key that has something, from the given one on.
     pub(crate) fn next(&self, from: u8) -> Option<u8> {
-        self.entries.range(from..).next().map(|(key, _)| *key)
+        (from..64).find(|key| self.find(*key).is_some())
     }
 
-    // Whether there is room, where there is memory for the entry.
-    pub(crate) fn put(&mut self, key: u8, value: u8) -> Result<Result<(), NoRoom>, AllocError> {
-        if self.entries.len() >= self.capacity && !self.entries.contains_key(&key) {
-            return Ok(Err(NoRoom));
+    // A key that has nothing yet needs room.
+    pub(crate) fn put(&mut self, key: u8, value: u8) -> Result<(), NoRoom> {
+        let place = self.values.get_mut(usize::from(key)).ok_or(NoRoom)?;
+        if place.is_none() {
+            if self.held >= self.capacity {
+                return Err(NoRoom);
+            }
+            self.held = self.held.saturating_add(1);
         }
-        self.entries.insert(key, value)?;
-        Ok(Ok(()))
+        *place = Some(value);
+        Ok(())
     }
 
+    // Whether the key had something.
     pub(crate) fn take(&mut self, key: u8) -> bool {
-        self.entries.remove(&key).is_some()
+        let place = self.values.get_mut(usize::from(key));
+        let taken = place.and_then(|place| place.take()).is_some();
+        if taken {
+            self.held = self.held.saturating_sub(1);
+        }
+        taken
     }
 }

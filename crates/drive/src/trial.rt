@@ -3,7 +3,6 @@ use crate::dice::Dice;
 use crate::model::Model;
 use crate::tally::Tally;
 use own_store::number::Number;
-use std::alloc::{AllocError, Global};
 use store::store::{Store, WalkingStore};
 use store::walk::keys_from;
 
@@ -33,23 +32,23 @@ pub(crate) struct Trial<S: Drop> {
 
 impl<S: Store<Key = Number, Value = u8> + Drop> Trial<S> {
     // The store must be empty, and have this capacity.
-    pub(crate) fn new(alloc: Global, store: S, capacity: usize) -> Trial<S> {
+    pub(crate) fn new(store: S, capacity: usize) -> Trial<S> {
         Trial {
             store,
-            model: Model::new(alloc, capacity),
+            model: Model::new(capacity),
             dice: Dice::new(1),
             tally: Tally::default(),
         }
     }
 
     // Two thousand steps.
-    pub(crate) fn run(&mut self) -> Result<Tally, AllocError> {
+    pub(crate) fn run(&mut self) -> Tally {
         self.compare_capacities();
         for _step in 0..2000 {
-            self.step()?;
+            self.step();
         }
         self.compare_capacities();
-        Ok(self.tally)
+        self.tally
     }
 
     fn compare_capacities(&mut self) {
@@ -58,12 +57,12 @@ impl<S: Store<Key = Number, Value = u8> + Drop> Trial<S> {
     }
 
     // A put, a take or a find, and then the size.
-    fn step(&mut self) -> Result<(), AllocError> {
+    fn step(&mut self) {
         let step = Step::drawn(self.dice.roll());
         let key = self.dice.roll() % 64;
         let value = self.dice.roll();
         match step {
-            Step::Put => self.put(key, value)?,
+            Step::Put => self.put(key, value),
             Step::Take => {
                 let taken = self.store.take(&Number { value: key });
                 self.tally.compare(taken, self.model.take(key));
@@ -74,13 +73,12 @@ impl<S: Store<Key = Number, Value = u8> + Drop> Trial<S> {
             }
         }
         self.tally.compare(self.store.size(), self.model.size());
-        Ok(())
     }
 
     // A store that has no room refuses with number 16 at line 0.
-    fn put(&mut self, key: u8, value: u8) -> Result<(), AllocError> {
+    fn put(&mut self, key: u8, value: u8) {
         let answer = self.store.put(Number { value: key }, value);
-        let wanted = self.model.put(key, value)?;
+        let wanted = self.model.put(key, value);
         if answer.is_err() {
             self.tally.refuse();
         }
@@ -88,7 +86,6 @@ impl<S: Store<Key = Number, Value = u8> + Drop> Trial<S> {
             answer.map_err(|refusal| (refusal.reason.number(), refusal.line)),
             wanted.map_err(|_| (16, 0)),
         );
-        Ok(())
     }
 }
 
@@ -109,8 +106,10 @@ impl<S: WalkingStore + Store<Key = Number, Value = u8> + Drop> Trial<S> {
         let mut places = [Number { value: 0 }; 64];
         let met = keys_from(&self.store, Number { value: 0 }, &mut places);
         tally.compare(met, self.model.size());
-        for (key, wanted) in places[..met].iter().zip(self.model.keys()) {
-            tally.compare(key.value, *wanted);
+        let mut from = 0;
+        for key in &places[..met] {
+            tally.compare(Some(key.value), self.model.next(from));
+            from = key.value.saturating_add(1);
         }
         tally
     }
